@@ -1,0 +1,3 @@
+// Worked cases over all layers, proved to be safe and then run.
+#[cfg(test)]
+mod memories;

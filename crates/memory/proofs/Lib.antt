@@ -1,0 +1,4 @@
+pub mod Answered
+pub mod Fronts
+pub mod Images
+pub mod Windows

@@ -1,0 +1,12 @@
+use native.Mathlib.Omega.{arith}
+use Rattle.memory.proofs.Windows.{length-window, whole-window}
+use Rattle.memory.proofs.window.WindowMemory.size.Needs as need
+
+pub returns : need.returns
+returns g c =
+    let me = c .args .self .now in
+    let whole = c .start .ensures .whole in
+    record {
+      whole = whole-window (g .M·Memory .words (me .below)) whole (me .first) (me .count);
+      answer = omega (arith, length-window (g .M·Memory .words (me .below)) whole (me .first) (me .count));
+    }
