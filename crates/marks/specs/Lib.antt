@@ -1,0 +1,4 @@
+pub mod Codes
+pub mod Counts
+pub mod Rules
+pub mod States
