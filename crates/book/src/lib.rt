@@ -9,6 +9,9 @@ ghost use Rattle.book.specs.Rules.{byBook, granted, conflict, onThread, onBoar
 use fault::Fault;
 use fault::Layer;
 use fault::Refusal;
+pub use marked::Marked;
+
+mod marked;
 
 // What tokens are taken for.
 #[derive(Clone, Copy, PartialEq, Eq, Debug)]

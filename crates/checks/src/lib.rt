@@ -1,3 +1,9 @@
 // Worked cases over all layers, proved to be safe and then run.
 #[cfg(test)]
+mod books;
+#[cfg(test)]
+mod marks_fused;
+#[cfg(test)]
 mod memories;
+#[cfg(test)]
+mod stores;

@@ -2,7 +2,7 @@
 ghost use mathlib.Core.Path.{_≡_};
 ghost use Prim.Native.Nat.{_+_, _≤_};
 ghost use lib.ListN.{length, set};
-ghost use Rattle.memory.specs.Words.{Whole, readAnswer, writeAnswer};
+ghost use Rattle.memory.specs.Words.{writeAnswer};
 ghost use Rattle.memory.specs.Buffers.{wordAt, wordBytes, overwritten, imageWords, imageBeyond, imageAfter};
 ghost use Rattle.std.specs.Of.Vec.{vec-items};
 use super::Memory;
@@ -54,7 +54,6 @@ pub impl Memory for Image as ImageMemory {
     }
 
     fn write(&mut self, address: u64, word: u64) -> Result<(), Fault>
-        ensures whole { λ _. ⌜ Whole (imageWords (vec-items (now (self .entry) .buffer))) ⌝ }
         ensures answer { λ r. ⌜ r ≡ writeAnswer (imageWords (vec-items (now (self .entry) .buffer))) address ⌝ }
         ensures after { λ _. ⌜ imageWords (vec-items (now (self .exit) .buffer)) ≡ set (imageWords (vec-items (now (self .entry) .buffer))) address word ⌝ }
         ensures beyond { λ _. ⌜ imageBeyond (vec-items (now (self .exit) .buffer)) ≡ imageBeyond (vec-items (now (self .entry) .buffer)) ⌝ }

@@ -26,19 +26,20 @@ pub trait Memory {
     // what lies in the same buffers and is no word of this memory: no call may touch it
     ghost beyond: { Self → List (List ℕ) };
 
+    // whole blocks, at most 64
+    law whole: { (m : Self) → Whole (words m) };
+
     // The number of blocks.
     fn size(&self) -> u64
-        ensures whole { λ _. ⌜ Whole (words (now (self .entry))) ⌝ }
+        ensures limit { λ r. ⌜ r ≤ 64 ⌝ }
         ensures answer { λ r. ⌜ 8 * r ≡ length (words (now (self .entry))) ⌝ };
 
     // The word at an address.
     fn read(&self, address: u64) -> Result<u64, Fault>
-        ensures whole { λ _. ⌜ Whole (words (now (self .entry))) ⌝ }
         ensures answer { λ r. ⌜ r ≡ readAnswer (words (now (self .entry))) address ⌝ };
 
     // Replaces the word at an address.
     fn write(&mut self, address: u64, word: u64) -> Result<(), Fault>
-        ensures whole { λ _. ⌜ Whole (words (now (self .entry))) ⌝ }
         ensures answer { λ r. ⌜ r ≡ writeAnswer (words (now (self .entry))) address ⌝ }
         ensures after { λ _. ⌜ words (now (self .exit)) ≡ set (words (now (self .entry))) address word ⌝ }
         ensures beyond { λ _. ⌜ beyond (now (self .exit)) ≡ beyond (now (self .entry)) ⌝ };

@@ -5,7 +5,7 @@ use Rattle.std.specs.declared.result.Result.the-variants.{Err}
 use Prim.Native.Nat.{_*_}
 use Rattle.memory.specs.Buffers.{wordAt}
 use Rattle.memory.proofs.Answered.{read-within, read-past}
-use Rattle.memory.proofs.Images.{whole-image, length-image, getD-image}
+use Rattle.memory.proofs.Images.{length-image, getD-image}
 use Rattle.memory.proofs.image.ImageMemory.read.Needs as need
 
 pub word-at-requires : need.word-at-requires
@@ -15,6 +15,5 @@ pub returns : need.returns
 returns c =
     let bytes = vec-items (c .args .self .now .buffer) in
     record {
-      whole = whole-image bytes;
       answer = read-within _ _ _ (omega arith) (c .word-at .ensures ∙ ap (λ l. wordAt l (8 * c .args .address)) (c .deref .ensures .value) ∙ sym (getD-image bytes _ (omega (arith, length-image bytes))));
     }

@@ -9,6 +9,5 @@ returns g c =
     let below = g .M·Memory .words (me .below) in
     let whole = c .start .ensures .whole in
     record {
-      whole = c .size .ensures .whole;
       answer = c .read .ensures .answer ∙ window-read below whole (me .first) (me .count) _ (omega (arith, length-window below whole (me .first) (me .count))) _ (omega arith);
     }

@@ -1,5 +1,5 @@
 use native.Mathlib.Omega.{arith}
-use Rattle.memory.proofs.Windows.{length-window, whole-window}
+use Rattle.memory.proofs.Windows.{length-window}
 use Rattle.memory.proofs.window.WindowMemory.size.Needs as need
 
 pub returns : need.returns
@@ -7,6 +7,6 @@ returns g c =
     let me = c .args .self .now in
     let whole = c .start .ensures .whole in
     record {
-      whole = whole-window (g .M·Memory .words (me .below)) whole (me .first) (me .count);
+      limit = omega arith;
       answer = omega (arith, length-window (g .M·Memory .words (me .below)) whole (me .first) (me .count));
     }

@@ -12,7 +12,6 @@ use Rattle.memory.proofs.window.WindowMemory.write.Needs as need
 pub returns-then-address-size : need.returns-then-address-size
 returns-then-address-size g c =
     record {
-      whole = c .size .ensures .whole;
       answer = ap Err (c .out-of-range .ensures) ∙ write-past _ _ (omega arith);
       after = sym (set-past _ _ _ (omega arith));
       beyond = refl;
@@ -27,7 +26,6 @@ returns g c =
     let is : 8 * c .start .result + c .args .address ≡ 8 * startOf below (me .first) + c .args .address = omega arith in
     let told = c .write .ensures in
     record {
-      whole = c .size .ensures .whole;
       answer = told .answer ∙ window-write below whole (me .first) (me .count) _ lt _ is;
       after = window-set below whole (me .first) (me .count) _ lt _ is _ _ (told .after);
       beyond = λ i. window-beyond-set below whole (me .first) (me .count) _ lt _ is _ _ (told .after) i ++ told .beyond i;
