@@ -1,6 +1,6 @@
 -- What a balanced picture tells, and what keeps it balanced.
-use mathlib.Core.Path.{_≡_, refl, sym, ap, subst, fun-ext, _∙_}
-use mathlib.Core.Bool.{Bool, true, false, cond, _||_, Bool-set}
+use mathlib.Core.Path.{_≡_, refl, sym, subst, fun-ext, _∙_}
+use mathlib.Core.Bool.{true, false, cond, _||_, Bool-set}
 use mathlib.Core.HLevel.{Π-prop}
 use mathlib.Core.List.{List, [], _∷_, _++_}
 use mathlib.Core.Logic.{∥∥₁-elim, ⊎-elim}
@@ -14,14 +14,14 @@ use Rattle.std.specs.declared.option.Option.{Option}
 use Rattle.std.specs.shelf.Lists.{sumBy}
 use Rattle.std.proofs.shelf.Lists.{length-push}
 use Rattle.std.proofs.shelf.Sums.{sumBy-push}
-use Rattle.std.proofs.shelf.Tests.{cases-eq, cond-true, cond-false, cond-both, eqb-true, eqb-false, eq-eqb, ne-eqb}
+use Rattle.std.proofs.shelf.Tests.{cases-eq, cond-both, eqb-true, eqb-false, eq-eqb, ne-eqb}
 use Rattle.std.proofs.shelf.Ways.{tells}
 use Rattle.marks.specs.States.{debitOf, isWriter}
 use Rattle.marks.specs.declared.states.Metastate.{Metastate}
 use Rattle.marks.specs.declared.states.Metastate.the-variants.{Anonymous, Reader, Writer}
-use Rattle.book.specs.Holdings.{Sound, countBelow, blocksHeld}
+use Rattle.book.specs.Holdings.{Sound, blocksHeld}
 use Rattle.book.specs.Picture.{Marks, Recorded, Picture, freshPicture, debitIn, anyWriter, shown, creditOf, recordsFor, holdingsOf, sumBelow, column}
-use Rattle.book.specs.Marking.{setAt, marked, logged, noted}
+use Rattle.book.specs.Marking.{setAt, marked, noted}
 use Rattle.book.specs.Balance.{Shared, Owned, Agrees, entered, InOrder, Balanced, Coherent}
 use Rattle.book.proofs.Fusing.{coherent-shared}
 use Rattle.book.proofs.Totals.{sum-same, sum-put, sum-others, sum-nothing, sum-ones, sum-room, sum-counts}

@@ -1,15 +1,15 @@
 -- A load by a thread without credit.
 use mathlib.Core.Path.{_≡_, refl, sym, ap, fun-ext, _∙_}
-use mathlib.Core.Bool.{Bool, true, false, cond, _&&_}
-use mathlib.Core.List.{List, [], _∷_, _++_}
+use mathlib.Core.Bool.{true, false}
+use mathlib.Core.List.{List}
 use mathlib.Core.Logic.{_⊎_, inl, inr, ⊎-elim}
 use native.Mathlib.Omega.{arith}
 use Prim.Native.Nat.{ℕ, _+_, _<_, _≤_}
-use lib.Dec.{eqb, ltb}
 use lib.ListN.{length, getD, set}
 use Rattle.std.specs.declared.option.Option.{Option}
 use Rattle.std.specs.declared.option.Option.the-variants.{Some, None}
-use Rattle.std.specs.shelf.Lists.{sumBy}
+use Rattle.std.specs.declared.result.Result.the-variants.{Ok, Err}
+use Rattle.fault.specs.declared.Fault.{Fault}
 use Rattle.std.proofs.shelf.Lists.{length-set}
 use Rattle.std.proofs.shelf.Sums.{sumBy-set, getD-le-sumBy}
 use Rattle.std.proofs.shelf.Tests.{cases-eq, eq-eqb, ne-eqb, eqb-true, lt-ltb, true≢false, false≢true}
@@ -18,10 +18,10 @@ use Rattle.marks.specs.States.{debitOf, isWriter, inRange}
 use Rattle.marks.specs.declared.states.Metastate.{Metastate}
 use Rattle.marks.specs.declared.states.Metastate.the-variants.{Anonymous, Reader, Writer}
 use Rattle.book.specs.declared.Take.the-variants.{Load}
-use Rattle.book.specs.Holdings.{put, lowestInTheWay, inTheWay}
+use Rattle.book.specs.Holdings.{put, inTheWay}
 use Rattle.book.specs.Rules.{granted, loadTake, afterLoad}
-use Rattle.book.specs.Picture.{Picture, debitIn, writerIn, anyWriter, creditOf, recordsFor, holdingsOf, sumBelow}
-use Rattle.book.specs.Marking.{setAt, marked, noted, orSplit, copyFor, withCopy, readBy, loadAnswer, loadUncredited}
+use Rattle.book.specs.Picture.{Picture, debitIn, writerIn, creditOf, recordsFor, holdingsOf}
+use Rattle.book.specs.Marking.{setAt, marked, noted, orSplit, copyFor, withCopy, readBy, loadAnswer, takeOne}
 use Rattle.book.specs.Balance.{ownedBy, Shared, Owned, Agrees, entered, Balanced}
 use Rattle.book.proofs.Balances.{agrees-shared, marked-kept, noted-kept, credit-push, order-room}
 use Rattle.book.proofs.Below.{lowest-only}
@@ -114,8 +114,8 @@ reader-granted (Reader x) w = refl
 reader-granted (Writer x) w = absurd (true≢false w)
 
 pub record Loads (p : Picture) (t b : ℕ) : Type 0 where
-  pub kept : Balanced (loadUncredited p t b)
-  pub held : holdingsOf (loadUncredited p t b) ≡ afterLoad (holdingsOf p) t b
+  pub kept : Balanced (takeOne p t b)
+  pub held : holdingsOf (takeOne p t b) ≡ afterLoad (holdingsOf p) t b
   pub answer : loadAnswer (copyFor (p .marks b) (p .seats t)) ≡ loadTake (holdingsOf p) t b
   pub room : length (p .logs t) < 128
   pub range : isWriter (copyFor (p .marks b) (p .seats t)) ≡ false → inRange (readBy t (copyFor (p .marks b) (p .seats t))) ≡ true
@@ -124,7 +124,7 @@ none-entered : (credit n : ℕ) → entered credit n ≡ true → credit ≡ 0 �
 none-entered credit n e z = grind (arith, tells)
 
 pub loads : (p : Picture) (t b : ℕ) → Balanced p → t < 16 → b < 64 → creditOf b (p .logs t) ≡ 0 → Loads p t b
-unfolding loadUncredited
+unfolding takeOne
 loads p t b s l k z = go (way h cs c t i (s .agrees b k) (omega (arith, s .four b k, s .seated t l)) l z)
   where
     h : Metastate
@@ -172,3 +172,22 @@ loads p t b s l k z = go (way h cs c t i (s .agrees b k) (omega (arith, s .four 
           room = room;
           range = λ v. read-range t (copyFor (p .marks b) i) l w d;
         }
+
+-- a refused load leaves a writer's copy, and a granted one a reader's more
+refused-copy : (t : ℕ) (m : Metastate) (f : Fault) → loadAnswer m ≡ Err f → (isWriter m ≡ true) × (readBy t m ≡ m)
+refused-copy t (Anonymous u) f e = absurd (let z : _≡_ {A = ℕ} 0 1 = cc in let y : ⊥ = omega arith in y)
+refused-copy t (Reader x) f e = absurd (let z : _≡_ {A = ℕ} 0 1 = cc in let y : ⊥ = omega arith in y)
+refused-copy t (Writer x) f e = (refl, refl)
+
+passed-copy : (m : Metastate) (x : Unit {0}) → loadAnswer m ≡ Ok x → isWriter m ≡ false
+passed-copy (Anonymous u) x e = refl
+passed-copy (Reader y) x e = refl
+passed-copy (Writer y) x e = absurd (let z : _≡_ {A = ℕ} 0 1 = cc in let y : ⊥ = omega arith in y)
+
+pub load-refused : (p : Picture) (t b : ℕ) (f : Fault) → loadAnswer (copyFor (p .marks b) (p .seats t)) ≡ Err f → marked p b (withCopy (p .marks b) (p .seats t) (readBy t (copyFor (p .marks b) (p .seats t)))) ≡ takeOne p t b
+unfolding takeOne
+load-refused p t b f e = let (w, s) = refused-copy t (copyFor (p .marks b) (p .seats t)) f e in rw (w, s)
+
+pub load-granted : (p : Picture) (t b : ℕ) (x : Unit {0}) → loadAnswer (copyFor (p .marks b) (p .seats t)) ≡ Ok x → noted (marked p b (withCopy (p .marks b) (p .seats t) (readBy t (copyFor (p .marks b) (p .seats t))))) t b 1 ≡ takeOne p t b
+unfolding takeOne
+load-granted p t b x e = let w = passed-copy (copyFor (p .marks b) (p .seats t)) x e in rw w

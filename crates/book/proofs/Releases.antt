@@ -1,8 +1,8 @@
 -- A release, a copy withdrawn, and a seat.
 use mathlib.Core.Path.{_≡_, refl, sym, ap, fun-ext, _∙_}
-use mathlib.Core.Bool.{Bool, true, false, cond}
+use mathlib.Core.Bool.{false, cond}
 use mathlib.Core.List.{List, []}
-use mathlib.Core.Logic.{_⊎_, inl, inr, ⊎-elim}
+use mathlib.Core.Logic.{_⊎_, ⊎-elim}
 use native.Mathlib.Omega.{arith}
 use Prim.Native.Nat.{ℕ, _+_, _-_, _<_, _≤_}
 use lib.Dec.{eqb, ltb}
@@ -10,21 +10,20 @@ use lib.ListN.{length, getD, set}
 use Rattle.std.specs.Iters.{folded}
 use Rattle.std.specs.declared.option.Option.{Option}
 use Rattle.std.specs.declared.option.Option.the-variants.{None}
-use Rattle.std.specs.shelf.Lists.{sumBy}
 use Rattle.std.proofs.shelf.Lists.{length-set}
 use Rattle.std.proofs.shelf.Sums.{sumBy-set, getD-le-sumBy}
-use Rattle.std.proofs.shelf.Tests.{cases-eq, cond-both, eq-eqb, ne-eqb, lt-ltb, ltb-true, ltb-false}
+use Rattle.std.proofs.shelf.Tests.{cases-eq, cond-both, eq-eqb, ne-eqb, lt-ltb, le-ltb, ltb-true, ltb-false}
 use Rattle.std.proofs.shelf.Ways.{tells}
 use Rattle.marks.specs.States.{debitOf, isWriter}
 use Rattle.marks.specs.declared.states.Metastate.{Metastate}
 use Rattle.marks.specs.declared.states.Metastate.the-variants.{Anonymous, Reader, Writer}
 use Rattle.book.specs.Holdings.{cleared}
 use Rattle.book.specs.Picture.{Marks, Picture, noCopies, debitIn, creditOf, holdingsOf, sumBelow}
-use Rattle.book.specs.Marking.{setAt, fused, gathered, withdrawn, relieved, releasePicture, seatPicture, dropPicture}
-use Rattle.book.specs.Balance.{Shared, Owned, Agrees, InOrder, Balanced, Fuses}
+use Rattle.book.specs.Marking.{setAt, marked, fused, gathered, withdrawn, relieved, relievedTo, relievedPicture, releasePicture, seatPicture, dropPicture}
+use Rattle.book.specs.Balance.{Shared, Agrees, InOrder, Balanced, Fuses}
 use Rattle.book.proofs.Balances.{agrees-shared, agrees-same, marked-kept}
 use Rattle.book.proofs.Fusing.{any-at, any-set, owned-at, owned-set, fuse-shared, fuse-owned}
-use Rattle.book.proofs.Stores.{Gathers, gathers}
+use Rattle.book.proofs.Stores.{gathers}
 use Rattle.book.proofs.Totals.{sum-put, sum-others, sum-nothing, sum-ones}
 
 -- a thread's credit taken off a gathered block
@@ -66,11 +65,11 @@ released-credit : (p : Picture) (t u c : ℕ) → cond (eqb u t) 0 (holdingsOf p
 released-credit p t u c = ⊎-elim (λ (e : u ≡ t). rw (eq-eqb u t e) refl) (λ (ne : u ≡ t → ⊥). rw (ne-eqb u t ne) refl) (cases-eq u t)
 
 pub release-holds : (p : Picture) (t : ℕ) → holdingsOf (releasePicture p t) ≡ cleared (holdingsOf p) t
-unfolding releasePicture
+unfolding relievedPicture
 release-holds p t = fun-ext (λ u. fun-ext (λ c. sym (released-credit p t u c)))
 
 pub release-balanced : (p : Picture) (t : ℕ) → Balanced p → t < 16 → Balanced (releasePicture p t)
-unfolding releasePicture relieved gathered
+unfolding relievedPicture relieved gathered
 release-balanced p t s l =
     record {
       four = λ b k. rw (lt-ltb b 64 k) (cond-both (ltb 0 (creditOf b (p .logs t))) (relieved (creditOf b (p .logs t)) (p .marks b)) (p .marks b) (λ m. length (m .copies) ≡ 4) (λ _. refl) (λ _. s .four b k));
@@ -128,3 +127,38 @@ seat-balanced p t board s l =
       seated = λ u m. cond-both (eqb u t) board (p .seats u) (λ n. n < 4) (λ _. l) (λ _. s .seated u m);
       inOrder = s .inOrder;
     }
+
+-- the blocks relieved one after the other: none yet, the next one, and one without credit
+pub relieved-none : (p : Picture) (t : ℕ) → p ≡ relievedPicture 0 p t
+unfolding relievedPicture
+relieved-none p t = ap (λ (marks : ℕ → Marks). let q : Picture = record { marks = marks; seats = p .seats; logs = p .logs } in q) (fun-ext (λ b. sym (rw (le-ltb b 0 (omega arith)) refl)))
+
+pub relieved-logs : (n : ℕ) (p : Picture) (t : ℕ) → relievedPicture n p t .logs ≡ p .logs
+unfolding relievedPicture
+relieved-logs n p t = refl
+
+pub relieved-at : (n : ℕ) (p : Picture) (t : ℕ) → relievedPicture n p t .marks n ≡ p .marks n
+unfolding relievedPicture
+relieved-at n p t = rw (le-ltb n n (omega arith)) refl
+
+pub relieved-more : (n : ℕ) (p : Picture) (t : ℕ) → 0 < creditOf n (p .logs t) → marked (relievedPicture n p t) n (relieved (creditOf n (p .logs t)) (p .marks n)) ≡ relievedPicture (n + 1) p t
+unfolding relievedPicture
+relieved-more n p t held = ap (λ (marks : ℕ → Marks). let q : Picture = record { marks = marks; seats = p .seats; logs = p .logs } in q) (fun-ext (λ b. at b))
+  where
+    at : (b : ℕ) → setAt (relievedTo n (p .marks) (p .logs t)) n (relieved (creditOf n (p .logs t)) (p .marks n)) b ≡ relievedTo (n + 1) (p .marks) (p .logs t) b
+    at b =
+        ⊎-elim
+        (λ (e : b ≡ n). rw (eq-eqb b n e, e, lt-ltb n (n + 1) (omega arith), lt-ltb 0 (creditOf n (p .logs t)) held) refl)
+        (λ (ne : b ≡ n → ⊥). let same : ltb b (n + 1) ≡ ltb b n = grind (arith, tells) in rw (ne-eqb b n ne, same) refl)
+        (cases-eq b n)
+
+pub relieved-less : (n : ℕ) (p : Picture) (t : ℕ) → creditOf n (p .logs t) ≤ 0 → relievedPicture n p t ≡ relievedPicture (n + 1) p t
+unfolding relievedPicture
+relieved-less n p t none = ap (λ (marks : ℕ → Marks). let q : Picture = record { marks = marks; seats = p .seats; logs = p .logs } in q) (fun-ext (λ b. at b))
+  where
+    at : (b : ℕ) → relievedTo n (p .marks) (p .logs t) b ≡ relievedTo (n + 1) (p .marks) (p .logs t) b
+    at b =
+        ⊎-elim
+        (λ (e : b ≡ n). rw (e, lt-ltb n (n + 1) (omega arith), le-ltb n n (omega arith), le-ltb 0 (creditOf n (p .logs t)) none) refl)
+        (λ (ne : b ≡ n → ⊥). let same : ltb b (n + 1) ≡ ltb b n = grind (arith, tells) in rw same refl)
+        (cases-eq b n)

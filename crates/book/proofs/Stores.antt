@@ -1,11 +1,10 @@
 -- A block gathered, and a store by a thread with credit below 64.
 use mathlib.Core.Path.{_≡_, refl, sym, ap, _∙_}
-use mathlib.Core.Bool.{Bool, true, false, cond}
+use mathlib.Core.Bool.{true, false}
 use mathlib.Core.List.{List}
 use mathlib.Core.Logic.{_⊎_, inl, inr, ⊎-elim}
 use native.Mathlib.Omega.{arith}
 use Prim.Native.Nat.{ℕ, _+_, _-_, _<_, _≤_}
-use lib.Dec.{eqb}
 use lib.ListN.{length}
 use Rattle.std.specs.Iters.{folded}
 use Rattle.std.specs.declared.option.Option.{Option}
@@ -20,7 +19,7 @@ use Rattle.book.specs.declared.Take.the-variants.{Store}
 use Rattle.book.specs.Holdings.{put, lowestInTheWay, inTheWay}
 use Rattle.book.specs.Rules.{byBook, granted, conflict, storeTake, afterStore}
 use Rattle.book.specs.Picture.{Picture, noCopies, creditOf, recordsFor, holdingsOf, sumBelow}
-use Rattle.book.specs.Marking.{setAt, fused, gathered, storeUncredited}
+use Rattle.book.specs.Marking.{marked, noted, fused, gathered, writtenIf, takeAll}
 use Rattle.book.specs.Balance.{Shared, Agrees, entered, Balanced, Coherent}
 use Rattle.book.proofs.Balances.{agrees-coherent, agrees-shared, marked-kept, noted-kept, order-room}
 use Rattle.book.proofs.Below.{lowest-at, lowest-only}
@@ -68,8 +67,8 @@ own-all p t b l e =
 
 pub record Stores (p : Picture) (t b : ℕ) : Type 0 where
   pub coherent : Coherent (p .marks b .home) (p .marks b .copies)
-  pub kept : Balanced (storeUncredited p t b)
-  pub held : holdingsOf (storeUncredited p t b) ≡ afterStore (holdingsOf p) t b
+  pub kept : Balanced (takeAll p t b)
+  pub held : holdingsOf (takeAll p t b) ≡ afterStore (holdingsOf p) t b
   pub room : length (p .logs t) < 128
   pub grants : debitOf (gathered (p .marks b) .home) ≡ creditOf b (p .logs t) → granted ≡ storeTake (holdingsOf p) t b
   pub refuses : (u : ℕ) → (debitOf (gathered (p .marks b) .home) ≡ creditOf b (p .logs t) → ⊥) → lowestInTheWay Store (holdingsOf p) t b ≡ Some u → Err (byBook (conflict Store u)) ≡ storeTake (holdingsOf p) t b
@@ -82,7 +81,7 @@ rest-entered : (credit n : ℕ) → entered credit n ≡ true → credit < 64 �
 rest-entered credit n e l = grind (arith, tells)
 
 pub stores : (p : Picture) (t b : ℕ) → Balanced p → t < 16 → b < 64 → creditOf b (p .logs t) < 64 → Stores p t b
-unfolding storeUncredited gathered
+unfolding takeAll gathered
 stores p t b s l k short = go (cases-eq (debitOf (folded fused (p .marks b .home) (p .marks b .copies))) (creditOf b (p .logs t)))
   where
     c : ℕ → ℕ
@@ -140,3 +139,12 @@ stores p t b s l k short = go (cases-eq (debitOf (folded fused (p .marks b .home
         after : (o : Option ℕ) → lowestInTheWay Store (holdingsOf p) t b ≡ o → holdingsOf p ≡ afterStore (holdingsOf p) t b
         after (Some u) q = taken-only Store (holdingsOf p) t b (barred u l k short q) .1
         after None q = absurd (other ne q)
+
+-- a granted store makes the thread the writer, and a refused one leaves the block gathered
+pub store-granted : (p : Picture) (t b : ℕ) → debitOf (gathered (p .marks b) .home) ≡ creditOf b (p .logs t) → noted (marked p b (writtenIf true t (gathered (p .marks b)))) t b (64 - creditOf b (p .logs t)) ≡ takeAll p t b
+unfolding takeAll
+store-granted p t b e = let own = eq-eqb (debitOf (gathered (p .marks b) .home)) (creditOf b (p .logs t)) e in rw own
+
+pub store-refused : (p : Picture) (t b : ℕ) → (debitOf (gathered (p .marks b) .home) ≡ creditOf b (p .logs t) → ⊥) → marked p b (writtenIf false t (gathered (p .marks b))) ≡ takeAll p t b
+unfolding takeAll
+store-refused p t b ne = let own = ne-eqb (debitOf (gathered (p .marks b) .home)) (creditOf b (p .logs t)) ne in rw own

@@ -60,7 +60,7 @@ pub record Balanced (p : Picture) : Type 0 where
   pub seated : (t : ℕ) → t < 16 → p .seats t < 4
   pub inOrder : (t : ℕ) → t < 16 → InOrder (p .logs t)
 
--- marks whose fusion is never refused
+-- a copy that fuses with home, and copies that do so one after the other
 abbrev pub Fuses : Metastate → Option Metastate → Type 0
 Fuses h None = Unit {0}
 Fuses h (Some m) = isOk (fuseOf h m) ≡ true

@@ -1,6 +1,6 @@
 -- What each call makes of a picture, granted or refused: the rules of a book that keeps its tokens by marks.
 use mathlib.Core.Path.{_≡_}
-use mathlib.Core.Bool.{Bool, cond}
+use mathlib.Core.Bool.{Bool, cond, _&&_}
 use mathlib.Core.List.{List, [], _∷_, _++_}
 use Prim.Native.Nat.{ℕ, _+_, _-_}
 use lib.Dec.{eqb, leb, ltb}
@@ -34,7 +34,7 @@ logged p t log = record { marks = p .marks; seats = p .seats; logs = setAt (p .l
 abbrev pub noted : Picture → ℕ → ℕ → ℕ → Picture
 noted p t b n = logged p t (p .logs t ++ record { block = b; count = n } ∷ [])
 
--- the fused mark, or home's where the marks lie apart
+-- the fused mark, or home's where the marks lie apart; a book in balance never meets that
 abbrev pub orHome : Metastate → Result Metastate Fault → Metastate
 orHome h (Ok m) = m
 orHome h (Err e) = h
@@ -77,8 +77,8 @@ loadAnswer (Reader x) = granted
 loadAnswer (Writer x) = Err (byBook (conflict Load x))
 
 -- a load by a thread without credit, on its board
-unfoldable pub loadUncredited : Picture → ℕ → ℕ → Picture
-loadUncredited p t b =
+unfoldable pub takeOne : Picture → ℕ → ℕ → Picture
+takeOne p t b =
     let m = p .marks b in
     let board = p .seats t in
     let copy = copyFor m board in
@@ -87,15 +87,15 @@ loadUncredited p t b =
     (noted (marked p b (withCopy m board (readBy t copy))) t b 1)
 
 abbrev pub loadPicture : Picture → ℕ → ℕ → Picture
-loadPicture p t b = cond (ltb 0 (creditOf b (p .logs t))) p (loadUncredited p t b)
+loadPicture p t b = cond (ltb 0 (creditOf b (p .logs t))) p (takeOne p t b)
 
 -- the marks, with the thread as the block's writer where it is granted the store
 abbrev pub writtenIf : Bool → ℕ → Marks → Marks
 writtenIf grant t m = record { home = cond grant (Writer t) (m .home); copies = m .copies }
 
 -- a store by a thread whose credit is below 64: granted where the debit is its own credit
-unfoldable pub storeUncredited : Picture → ℕ → ℕ → Picture
-storeUncredited p t b =
+unfoldable pub takeAll : Picture → ℕ → ℕ → Picture
+takeAll p t b =
     let m = gathered (p .marks b) in
     let credit = creditOf b (p .logs t) in
     let own = eqb (debitOf (m .home)) credit in
@@ -103,18 +103,22 @@ storeUncredited p t b =
     cond own (noted q t b (64 - credit)) q
 
 abbrev pub storePicture : Picture → ℕ → ℕ → Picture
-storePicture p t b = cond (leb 64 (creditOf b (p .logs t))) p (storeUncredited p t b)
+storePicture p t b = cond (leb 64 (creditOf b (p .logs t))) p (takeAll p t b)
 
 -- a block gathered, with a credit taken off home's debit
 unfoldable pub relieved : ℕ → Marks → Marks
 relieved credit m = record { home = Anonymous (debitOf (gathered m .home) - credit); copies = noCopies }
 
--- the marks of the blocks below n, after a release of what the log records
+-- each block below n on which the log has credit is relieved of it
 abbrev pub relievedTo : ℕ → (ℕ → Marks) → List Recorded → (ℕ → Marks)
-relievedTo n marks log = λ b. cond (ltb b n) (cond (ltb 0 (creditOf b log)) (relieved (creditOf b log) (marks b)) (marks b)) (marks b)
+relievedTo n marks log = λ b. cond (ltb b n && ltb 0 (creditOf b log)) (relieved (creditOf b log) (marks b)) (marks b)
 
-unfoldable pub releasePicture : Picture → ℕ → Picture
-releasePicture p t = record { marks = relievedTo 64 (p .marks) (p .logs t); seats = p .seats; logs = setAt (p .logs) t [] }
+unfoldable pub relievedPicture : ℕ → Picture → ℕ → Picture
+relievedPicture n p t = record { marks = relievedTo n (p .marks) (p .logs t); seats = p .seats; logs = p .logs }
+
+-- all 64 blocks are relieved, and the log is emptied
+abbrev pub releasePicture : Picture → ℕ → Picture
+releasePicture p t = logged (relievedPicture 64 p t) t []
 
 abbrev pub seatPicture : Picture → ℕ → ℕ → Picture
 seatPicture p t board = record { marks = p .marks; seats = setAt (p .seats) t board; logs = p .logs }
@@ -122,9 +126,9 @@ seatPicture p t board = record { marks = p .marks; seats = setAt (p .seats) t bo
 abbrev pub dropPicture : Picture → ℕ → ℕ → Picture
 dropPicture p board b = marked p b (withdrawn (p .marks b) board)
 
--- the picture afterwards where both numbers are below their limits, and otherwise the one before
-abbrev pub within2 : ℕ → ℕ → ℕ → ℕ → Picture → Picture → Picture
-within2 i m j n after before = cond (ltb i m) (cond (ltb j n) after before) before
+-- the picture before where n is not below its limit, and otherwise the one after
+abbrev pub checked : ℕ → ℕ → Picture → Picture → Picture
+checked n limit before after = cond (ltb n limit) after before
 
 -- the figure of a release is the number of the thread's records
 abbrev pub releaseFigure : Picture → ℕ → Result ℕ Fault
@@ -132,8 +136,8 @@ releaseFigure p t = onThread t (Ok (length (p .logs t)))
 
 -- answer and picture after each call
 abbrev pub Marking : Picture → Move → Picture → Type 0
-Marking p (loaded t b r) q = (r ≡ loadTake (holdingsOf p) t b) × (q ≡ within2 t 16 b 64 (loadPicture p t b) p)
-Marking p (stored t b r) q = (r ≡ storeTake (holdingsOf p) t b) × (q ≡ within2 t 16 b 64 (storePicture p t b) p)
-Marking p (released t r) q = (r ≡ releaseFigure p t) × (q ≡ cond (ltb t 16) (releasePicture p t) p)
-Marking p (seated t board r) q = (r ≡ seatAnswer t board) × (q ≡ within2 t 16 board 4 (seatPicture p t board) p)
-Marking p (dropped board b r) q = (r ≡ dropAnswer board b) × (q ≡ within2 board 4 b 64 (dropPicture p board b) p)
+Marking p (loaded t b r) q = (r ≡ loadTake (holdingsOf p) t b) × (q ≡ checked t 16 p (checked b 64 p (loadPicture p t b)))
+Marking p (stored t b r) q = (r ≡ storeTake (holdingsOf p) t b) × (q ≡ checked t 16 p (checked b 64 p (storePicture p t b)))
+Marking p (released t r) q = (r ≡ releaseFigure p t) × (q ≡ checked t 16 p (releasePicture p t))
+Marking p (seated t board r) q = (r ≡ seatAnswer t board) × (q ≡ checked t 16 p (checked board 4 p (seatPicture p t board)))
+Marking p (dropped board b r) q = (r ≡ dropAnswer board b) × (q ≡ checked board 4 p (checked b 64 p (dropPicture p board b)))

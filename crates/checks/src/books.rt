@@ -1,5 +1,9 @@
 // Both books on the same worked sequences: the same answers and holdings, each with its own figures.
+use board::BoardBook;
+use board::BoardBookBook;
+use board::BoardBookMarked;
 use book::Book;
+use book::Marked;
 use fault::Fault;
 use fault::FaultDebug;
 use fault::FaultPartialEq;
@@ -100,4 +104,17 @@ fn full_book() -> Result<(), Fail> {
     let mut book = FullBook::new();
     check_eq(worked(&mut book)?, 2)?;
     edges(&mut book)
+}
+
+#[test]
+fn board_book() -> Result<(), Fail> {
+    let mut book = BoardBook::new();
+    check_eq(worked(&mut book)?, 3).note("a block loaded and then stored to has two records")?;
+    edges(&mut book)?;
+    check_eq(book.tokens(5), Ok(1))?;
+    check_eq(book.tokens(64), Err(refused(Refusal::BlockOutOfRange(64))))?;
+    check_eq(
+        book.codes(u64::MAX),
+        Err(refused(Refusal::BlockOutOfRange(u64::MAX))),
+    )
 }

@@ -1,4 +1,6 @@
 // The store on worked lists of calls.
+use board::BoardBook;
+use board::BoardBookBook;
 use fault::Fault;
 use fault::FaultDebug;
 use fault::FaultPartialEq;
@@ -46,7 +48,48 @@ fn a_load_and_a_store_of_one_word(rt: LibcRuntime) -> Result<(), Fail> {
     check_eq(store.load(4, 0), Ok(10))?;
     check_eq(store.store(4, 0, 11), Ok(()))?;
     check_eq(store.commit(4), Ok((1, 1)))?;
-    check_eq(store.memory().read(0), Ok(11))
+    check_eq(store.memory().read(0), Ok(11))?;
+    let mut store = Store::fresh(Plain::over(vec![in rt.alloc(); 10; 512]?), BoardBook::new());
+    check_eq(store.begin(4), Ok(()))?;
+    check_eq(store.load(4, 0), Ok(10))?;
+    check_eq(store.store(4, 0, 11), Ok(()))?;
+    check_eq(store.commit(4), Ok((1, 2))).note(
+        "the board book has a record for the load and one for the store",
+    )
+}
+
+#[test]
+fn seats_and_drops(rt: LibcRuntime) -> Result<(), Fail> {
+    let mut store = Store::fresh(Plain::over(vec![in rt.alloc(); 10; 512]?), BoardBook::new());
+    check_eq(
+        store.seat(16, 0),
+        Err(refused(Layer::Store, Refusal::ThreadOutOfRange(16))),
+    )?;
+    check_eq(
+        store.seat(15, 4),
+        Err(refused(Layer::Book, Refusal::BoardOutOfRange(4))),
+    )?;
+    check_eq(
+        store.drop_copy(4, 64),
+        Err(refused(Layer::Book, Refusal::BoardOutOfRange(4))),
+    )?;
+    check_eq(
+        store.drop_copy(3, 64),
+        Err(refused(Layer::Book, Refusal::BlockOutOfRange(64))),
+    )?;
+    check_eq(store.begin(1), Ok(()))?;
+    check_eq(store.load(1, 7), Ok(10))?;
+    check_eq(store.call(Call::Seat(1, 2)), Ok(Answer::Done)).note(
+        "an open job may be seated elsewhere",
+    )?;
+    check_eq(store.call(Call::Drop(0, 0)), Ok(Answer::Done))?;
+    check_eq(store.begin(2), Ok(()))?;
+    check_eq(
+        store.store(2, 0, 1),
+        Err(refused(Layer::Book, Refusal::StoreConflict(1))),
+    )?;
+    check_eq(store.store(1, 0, 1), Ok(()))?;
+    check_eq(store.commit(1), Ok((1, 2)))
 }
 
 #[test]

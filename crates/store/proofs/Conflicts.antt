@@ -25,7 +25,7 @@ use Rattle.store.specs.Promises.{ExactlyWhen, Conflicts, AllConflicts}
 use Rattle.store.specs.declared.Answer.{Answer}
 use Rattle.store.specs.declared.Answer.the-variants.{Done, Word}
 use Rattle.store.specs.declared.Call.{Call}
-use Rattle.store.specs.declared.Call.the-variants.{Begin, Load, Store, Commit, Abort}
+use Rattle.store.specs.declared.Call.the-variants.{Begin, Load, Store, Commit, Abort, Seat, Drop}
 
 abbrev placeIn : Result Answer Fault → ℕ
 placeIn (Ok x) = 0
@@ -79,6 +79,8 @@ conflicts-at m es (Store t a w) r right =
     ∙ store-decided (firstBelow (touchedByOther es t (blockOf a)) 16))
 conflicts-at m es (Commit t) r right = tt
 conflicts-at m es (Abort t) r right = tt
+conflicts-at m es (Seat t board) r right = tt
+conflicts-at m es (Drop board b) r right = tt
 
 pub all-conflicts : (m : List ℕ) (h : History) → Answers m h → AllConflicts m h
 unfolding Answers AllConflicts

@@ -1,5 +1,5 @@
 -- Every call carries forward what a store that went through a history has.
-use mathlib.Core.Path.{_≡_}
+use mathlib.Core.Path.{_≡_, sym, subst}
 use mathlib.Core.List.{List, _∷_}
 use Prim.Native.Nat.{ℕ}
 use Rattle.std.specs.declared.result.Result.{Result}
@@ -11,11 +11,12 @@ use Rattle.store.specs.Histories.{History}
 use Rattle.store.specs.Reached.{Reached}
 use Rattle.store.specs.declared.Answer.{Answer}
 use Rattle.store.specs.declared.Call.{Call}
-use Rattle.store.specs.declared.Call.the-variants.{Begin, Load, Store, Commit, Abort}
+use Rattle.store.specs.declared.Call.the-variants.{Begin, Load, Store, Commit, Abort, Seat, Drop}
 use Rattle.store.proofs.StepAbort.{step-abort}
 use Rattle.store.proofs.StepBegin.{step-begin}
 use Rattle.store.proofs.StepCommit.{step-commit}
 use Rattle.store.proofs.StepLoad.{step-load}
+use Rattle.store.proofs.StepRefused.{step-seat, step-drop}
 use Rattle.store.proofs.StepStore.{step-store}
 
 -- the soundness afterwards is not needed: it follows from the soundness before
@@ -25,3 +26,7 @@ step m h s s′ (Load t a) r sound _ whole answered after reached = step-load m 
 step m h s s′ (Store t a w) r sound _ whole answered after reached = step-store m h s s′ t a w r sound whole answered after reached
 step m h s s′ (Commit t) r sound _ whole answered after reached = step-commit m h s s′ t r sound whole answered after reached
 step m h s s′ (Abort t) r sound _ whole answered after reached = step-abort m h s s′ t r sound whole answered after reached
+step m h s s′ (Seat t board) r sound _ whole answered after reached =
+    subst (Reached m (record { call = Seat t board; answer = r } ∷ h)) (sym after) (step-seat m h s t board r answered reached)
+step m h s s′ (Drop board b) r sound _ whole answered after reached =
+    subst (Reached m (record { call = Drop board b; answer = r } ∷ h)) (sym after) (step-drop m h s board b r answered reached)

@@ -18,7 +18,7 @@ use Rattle.store.specs.States.{blockOf}
 use Rattle.store.specs.declared.Answer.{Answer}
 use Rattle.store.specs.declared.Answer.the-variants.{Done, Word, Ended}
 use Rattle.store.specs.declared.Call.{Call}
-use Rattle.store.specs.declared.Call.the-variants.{Begin, Load, Store, Commit, Abort}
+use Rattle.store.specs.declared.Call.the-variants.{Begin, Load, Store, Commit, Abort, Seat, Drop}
 
 pub record Told : Type 0 where
   pub call : Call
@@ -39,7 +39,8 @@ pub data Access : Type 0 where
   loads : ℕ → Access
   stores : ℕ → ℕ → Access
 
--- a call, once it is known whether it was granted: a commit ends a job for good, an abort does not
+-- a call, once it is known whether it was granted: a commit ends a job for good, an abort does not; seat and drop
+-- belong to no job
 abbrev pub eventOf : Call → Bool → Event Access
 eventOf c false = nothing
 eventOf (Begin t) true = opens t
@@ -47,6 +48,8 @@ eventOf (Load t a) true = accesses t (loads a)
 eventOf (Store t a w) true = accesses t (stores a w)
 eventOf (Commit t) true = ends t true
 eventOf (Abort t) true = ends t false
+eventOf (Seat t board) true = nothing
+eventOf (Drop board b) true = nothing
 
 -- the calls of a history and which were granted, and nothing else of the answers
 abbrev pub events : History → List (Event Access)

@@ -9,12 +9,12 @@ use Rattle.std.specs.declared.result.Result.the-variants.{Ok, Err}
 use Rattle.fault.specs.declared.Fault.{Fault}
 use Rattle.fault.specs.declared.Layer.{Layer}
 use Rattle.fault.specs.declared.Layer.the-variants.{Text, Store as InStore, Memory, Book, Marks}
-use Rattle.book.specs.Moves.{Move, loaded, stored, released}
+use Rattle.book.specs.Moves.{Move, loaded, stored, released, seated, dropped}
 use Rattle.store.specs.States.{blockOf}
 use Rattle.store.specs.declared.Answer.{Answer}
 use Rattle.store.specs.declared.Answer.the-variants.{Done, Word, Ended}
 use Rattle.store.specs.declared.Call.{Call}
-use Rattle.store.specs.declared.Call.the-variants.{Begin, Load, Store, Commit, Abort}
+use Rattle.store.specs.declared.Call.the-variants.{Begin, Load, Store, Commit, Abort, Seat, Drop}
 
 abbrev pub isBook : Layer → Bool
 isBook Text = false
@@ -45,6 +45,8 @@ moveOf (Load t a) r = moveFor (loaded t (blockOf a)) (granted r)
 moveOf (Store t a w) r = moveFor (stored t (blockOf a)) (granted r)
 moveOf (Commit t) r = endMove t r
 moveOf (Abort t) r = endMove t r
+moveOf (Seat t board) r = moveFor (seated t board) (granted r)
+moveOf (Drop board b) r = moveFor (dropped board b) (granted r)
 
 -- R: what a book promises of its moves
 abbrev pub MovedBy : {B : Type 0} → (B → Move → B → Type 0) → B → Option Move → B → Type 0

@@ -20,7 +20,7 @@ use Rattle.threads.specs.Judgement.{allowed}
 use Rattle.store.specs.Moved.{Releases, MovedBy, moveOf}
 use Rattle.store.specs.declared.Answer.{Answer}
 use Rattle.store.specs.declared.Call.{Call}
-use Rattle.store.specs.declared.Call.the-variants.{Begin, Load, Store, Commit, Abort}
+use Rattle.store.specs.declared.Call.the-variants.{Begin, Load, Store, Commit, Abort, Seat, Drop}
 use Rattle.store.specs.declared.Store.{Store as TheStore}
 use Rattle.store.specs.declared.Turn.{Turn}
 use Rattle.store.specs.States.{State, stateOf, blockOf}
@@ -46,6 +46,8 @@ Conflicts m es (Load t a) r = openRule es t ≡ allowed → addressRule m a ≡ 
 Conflicts m es (Store t a w) r = openRule es t ≡ allowed → addressRule m a ≡ allowed → roomRule es t a ≡ allowed → ExactlyWhen StoreConflict (touchedByOther es t (blockOf a)) r
 Conflicts m es (Commit t) r = Unit {0}
 Conflicts m es (Abort t) r = Unit {0}
+Conflicts m es (Seat t board) r = Unit {0}
+Conflicts m es (Drop board b) r = Unit {0}
 
 unfoldable pub AllConflicts : List ℕ → History → Type 0
 AllConflicts m [] = Unit {0}

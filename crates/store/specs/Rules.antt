@@ -17,12 +17,12 @@ use Rattle.book.specs.Holdings.{firstBelow, countBelow}
 use Rattle.book.specs.Rules.{byBook}
 use Rattle.memory.specs.Words.{outOfRange}
 use Rattle.threads.specs.Judgement.{refused, allowed, Verdict}
-use Rattle.store.specs.States.{andThen, blockOf, doneOf, wordOf}
+use Rattle.store.specs.States.{andThen, blockOf, doneOf, wordOf, seatAnswer, dropAnswer}
 use Rattle.store.specs.Histories.{History, Event, Access, events, openJob, jobOf, alone, serialWords, latestStore, storedIn, touched, storedAddresses}
 use Rattle.store.specs.declared.Answer.{Answer}
 use Rattle.store.specs.declared.Answer.the-variants.{Done, Word, Ended}
 use Rattle.store.specs.declared.Call.{Call}
-use Rattle.store.specs.declared.Call.the-variants.{Begin, Load, Store, Commit, Abort}
+use Rattle.store.specs.declared.Call.the-variants.{Begin, Load, Store, Commit, Abort, Seat, Drop}
 
 abbrev pub onThread : ℕ → Verdict → Verdict
 onThread t next = cond (ltb t 16) next (refused (ThreadOutOfRange t))
@@ -90,6 +90,8 @@ Rightly m es (Load t a) r = r ≡ wordOf (loadRule m es t a)
 Rightly m es (Store t a w) r = r ≡ doneOf (storeRule m es t a)
 Rightly m es (Commit t) r = EndRule es t (openRule es t) r
 Rightly m es (Abort t) r = EndRule es t (openRule es t) r
+Rightly m es (Seat t board) r = r ≡ doneOf (seatAnswer t board)
+Rightly m es (Drop board b) r = r ≡ doneOf (dropAnswer board b)
 
 -- every answer of a history is the one that the rules give from the turns before it
 unfoldable pub Answers : List ℕ → History → Type 0

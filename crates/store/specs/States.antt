@@ -9,10 +9,10 @@ use Rattle.std.specs.declared.result.Result.{Result}
 use Rattle.std.specs.declared.result.Result.the-variants.{Ok, Err}
 use Rattle.fault.specs.declared.Fault.{Fault}
 use Rattle.book.specs.Holdings.{Holdings}
-use Rattle.book.specs.Rules.{loadTake, storeTake, afterLoad, afterStore, afterRelease, Released}
+use Rattle.book.specs.Rules.{loadTake, storeTake, afterLoad, afterStore, afterRelease, Released, seatAnswer as seatInBook, dropAnswer as dropInBook}
 use Rattle.memory.specs.Words.{readAnswer}
 use Rattle.threads.specs.Entries.{View, idle, begun, notedIn}
-use Rattle.threads.specs.Judgement.{judgeOf, roomOf}
+use Rattle.threads.specs.Judgement.{judgeOf, roomOf, threadIn}
 use Rattle.threads.specs.Tables.{entryAt, tableOf}
 use Rattle.threads.specs.declared.record.Undo.{Undo}
 use Rattle.threads.specs.declared.entry.Request.the-variants.{Begin as Begins, Load as Loads, Store as Stores, Commit as Commits, Abort as Aborts}
@@ -20,7 +20,7 @@ use Rattle.store.specs.declared.Answer.{Answer}
 use Rattle.store.specs.declared.Answer.the-variants.{Done, Word, Ended}
 use Rattle.store.specs.declared.Store.{Store as TheStore}
 use Rattle.store.specs.declared.Call.{Call}
-use Rattle.store.specs.declared.Call.the-variants.{Begin, Load, Store, Commit, Abort}
+use Rattle.store.specs.declared.Call.the-variants.{Begin, Load, Store, Commit, Abort, Seat, Drop}
 
 -- the words in place are the memory's, the holdings the book's
 pub record State : Type 0 where
@@ -55,6 +55,13 @@ loadAnswer s t a = andThen (beforeLoad s t a) (andThen (loadTake (s .holds) t (b
 
 abbrev pub storeAnswer : State → ℕ → ℕ → Result (Unit {0}) Fault
 storeAnswer s t a = andThen (beforeStore s t a) (storeTake (s .holds) t (blockOf a))
+
+-- seat and drop belong to no job: the store judges the thread, the book the rest
+abbrev pub seatAnswer : ℕ → ℕ → Result (Unit {0}) Fault
+seatAnswer t board = andThen (threadIn t) (seatInBook t board)
+
+abbrev pub dropAnswer : ℕ → ℕ → Result (Unit {0}) Fault
+dropAnswer board b = dropInBook board b
 
 -- the answers of all calls in one type
 abbrev pub doneOf : Result (Unit {0}) Fault → Result Answer Fault
@@ -130,6 +137,8 @@ Answered s (Load t a) r = r ≡ wordOf (loadAnswer s t a)
 Answered s (Store t a w) r = r ≡ doneOf (storeAnswer s t a)
 Answered s (Commit t) r = EndAnswer s t (judgeOf (s .table) t Commits) r
 Answered s (Abort t) r = EndAnswer s t (judgeOf (s .table) t Aborts) r
+Answered s (Seat t board) r = r ≡ doneOf (seatAnswer t board)
+Answered s (Drop board b) r = r ≡ doneOf (dropAnswer board b)
 
 abbrev pub stateAfter : State → Call → State
 stateAfter s (Begin t) = beginState s t
@@ -137,3 +146,5 @@ stateAfter s (Load t a) = loadState s t a
 stateAfter s (Store t a w) = storeState s t a w
 stateAfter s (Commit t) = commitState s t
 stateAfter s (Abort t) = abortState s t
+stateAfter s (Seat t board) = s
+stateAfter s (Drop board b) = s

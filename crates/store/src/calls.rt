@@ -1,9 +1,9 @@
 // The public calls. Each is one private call, with what it means for every history beside it.
 ghost use mathlib.Core.Path.{_≡_};
-ghost use Rattle.store.specs.States.{stateOf, beginAnswer, beginState, loadAnswer, loadState, storeAnswer, storeState, commitState, abortState, stateAfter, Answered, doneOf, wordOf, endedOf};
+ghost use Rattle.store.specs.States.{stateOf, beginAnswer, beginState, loadAnswer, loadState, storeAnswer, storeState, commitState, abortState, stateAfter, Answered, seatAnswer, dropAnswer, doneOf, wordOf, endedOf};
 ghost use Rattle.store.specs.Moved.{MovedBy, moveOf};
 ghost use Rattle.store.specs.Reached.{Carries};
-ghost use Rattle.store.specs.declared.Call.the-variants.{Begin as BeginCall, Load as LoadCall, Store as StoreCall, Commit as CommitCall, Abort as AbortCall};
+ghost use Rattle.store.specs.declared.Call.the-variants.{Begin as BeginCall, Load as LoadCall, Store as StoreCall, Commit as CommitCall, Abort as AbortCall, Seat as SeatCall, Drop as DropCall};
 use crate::Answer;
 use crate::Call;
 use crate::Store;
@@ -67,6 +67,28 @@ impl<M: Memory, B: Book> Store<M, B> {
         self.core_abort(thread)
     }
 
+    // Seats a thread on a board. Belongs to no job.
+    pub fn seat(&mut self, thread: u64, board: u64) -> Result<(), Fault>
+        ensures answer { λ r. ⌜ r ≡ seatAnswer thread board ⌝ }
+        ensures after { λ _. ⌜ stateOf (M·Memory .words) (B·Book .holding) (now (self .exit)) ≡ stateOf (M·Memory .words) (B·Book .holding) (now (self .entry)) ⌝ }
+        ensures beyond { λ _. ⌜ M·Memory .beyond (now (self .exit) .memory) ≡ M·Memory .beyond (now (self .entry) .memory) ⌝ }
+        ensures own { λ r. ⌜ MovedBy (B·Book .moves) (now (self .entry) .book) (moveOf (SeatCall thread board) (doneOf r)) (now (self .exit) .book) ⌝ }
+        ensures step { λ r. ⌜ Carries (stateOf (M·Memory .words) (B·Book .holding) (now (self .entry))) (SeatCall thread board) (doneOf r) (stateOf (M·Memory .words) (B·Book .holding) (now (self .exit))) ⌝ }
+    {
+        self.core_seat(thread, board)
+    }
+
+    // Has a board give up its copy of a block's mark. Belongs to no job.
+    pub fn drop_copy(&mut self, board: u64, block: u64) -> Result<(), Fault>
+        ensures answer { λ r. ⌜ r ≡ dropAnswer board block ⌝ }
+        ensures after { λ _. ⌜ stateOf (M·Memory .words) (B·Book .holding) (now (self .exit)) ≡ stateOf (M·Memory .words) (B·Book .holding) (now (self .entry)) ⌝ }
+        ensures beyond { λ _. ⌜ M·Memory .beyond (now (self .exit) .memory) ≡ M·Memory .beyond (now (self .entry) .memory) ⌝ }
+        ensures own { λ r. ⌜ MovedBy (B·Book .moves) (now (self .entry) .book) (moveOf (DropCall board block) (doneOf r)) (now (self .exit) .book) ⌝ }
+        ensures step { λ r. ⌜ Carries (stateOf (M·Memory .words) (B·Book .holding) (now (self .entry))) (DropCall board block) (doneOf r) (stateOf (M·Memory .words) (B·Book .holding) (now (self .exit))) ⌝ }
+    {
+        self.core_drop(board, block)
+    }
+
     // Any of the calls.
     pub fn call(&mut self, call: Call) -> Result<Answer, Fault>
         ensures answer { λ r. ⌜ Answered (stateOf (M·Memory .words) (B·Book .holding) (now (self .entry))) call r ⌝ }
@@ -81,6 +103,8 @@ impl<M: Memory, B: Book> Store<M, B> {
             Call::Store(thread, address, word) => done(self.store(thread, address, word)),
             Call::Commit(thread) => ended(self.commit(thread)),
             Call::Abort(thread) => ended(self.abort(thread)),
+            Call::Seat(thread, board) => done(self.seat(thread, board)),
+            Call::Drop(board, block) => done(self.drop_copy(board, block)),
         }
     }
 }

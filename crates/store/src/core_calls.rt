@@ -1,6 +1,6 @@
 // The calls, as far as one moment goes: what is answered and what is left. The public calls add what this means for a history.
 ghost use mathlib.Core.Path.{_≡_};
-ghost use Rattle.store.specs.States.{stateOf, beginAnswer, beginState, loadAnswer, loadState, storeAnswer, storeState, commitState, abortState, putBack, Answered, EndAnswer, doneOf, wordOf, endedOf};
+ghost use Rattle.store.specs.States.{stateOf, beginAnswer, beginState, loadAnswer, loadState, storeAnswer, storeState, commitState, abortState, putBack, Answered, EndAnswer, seatAnswer, dropAnswer, doneOf, wordOf, endedOf};
 ghost use Rattle.store.specs.Moved.{MovedBy, moveOf, endMove};
 ghost use Rattle.threads.specs.Entries.{idle};
 ghost use Rattle.threads.specs.Tables.{tableOf};
@@ -8,13 +8,14 @@ ghost use Rattle.book.specs.Rules.{afterRelease};
 ghost use Prim.Native.Nat.{_<_};
 ghost use lib.ListN.{set};
 ghost use Rattle.std.specs.declared.result.Result.the-variants.{Ok};
-ghost use Rattle.store.specs.declared.Call.the-variants.{Load as LoadCall, Store as StoreCall, Commit as CommitCall, Abort as AbortCall};
+ghost use Rattle.store.specs.declared.Call.the-variants.{Load as LoadCall, Store as StoreCall, Commit as CommitCall, Abort as AbortCall, Seat as SeatCall, Drop as DropCall};
 use crate::Store;
 use book::Book;
 use fault::Fault;
 use memory::Memory;
 use threads::Request;
 use threads::Undo;
+use threads::check_thread;
 
 impl<M: Memory, B: Book> Store<M, B> {
     pub(crate) fn core_begin(&mut self, thread: u64) -> Result<(), Fault>
@@ -88,6 +89,25 @@ impl<M: Memory, B: Book> Store<M, B> {
         self.table.judge(thread, Request::Abort)?;
         put_back(&mut self.memory, self.table.undo(thread));
         self.end(thread)
+    }
+
+    pub(crate) fn core_seat(&mut self, thread: u64, board: u64) -> Result<(), Fault>
+        ensures answer { λ r. ⌜ r ≡ seatAnswer thread board ⌝ }
+        ensures after { λ _. ⌜ stateOf (M·Memory .words) (B·Book .holding) (now (self .exit)) ≡ stateOf (M·Memory .words) (B·Book .holding) (now (self .entry)) ⌝ }
+        ensures memory { λ _. ⌜ now (self .exit) .memory ≡ now (self .entry) .memory ⌝ }
+        ensures own { λ r. ⌜ MovedBy (B·Book .moves) (now (self .entry) .book) (moveOf (SeatCall thread board) (doneOf r)) (now (self .exit) .book) ⌝ }
+    {
+        check_thread(thread)?;
+        self.book.seat(thread, board)
+    }
+
+    pub(crate) fn core_drop(&mut self, board: u64, block: u64) -> Result<(), Fault>
+        ensures answer { λ r. ⌜ r ≡ dropAnswer board block ⌝ }
+        ensures after { λ _. ⌜ stateOf (M·Memory .words) (B·Book .holding) (now (self .exit)) ≡ stateOf (M·Memory .words) (B·Book .holding) (now (self .entry)) ⌝ }
+        ensures memory { λ _. ⌜ now (self .exit) .memory ≡ now (self .entry) .memory ⌝ }
+        ensures own { λ r. ⌜ MovedBy (B·Book .moves) (now (self .entry) .book) (moveOf (DropCall board block) (doneOf r)) (now (self .exit) .book) ⌝ }
+    {
+        self.book.drop_copy(board, block)
     }
 }
 

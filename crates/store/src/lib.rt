@@ -30,6 +30,10 @@ pub enum Call {
     Commit(u64),
     // a thread's job is put back
     Abort(u64),
+    // thread, board: the thread works on that board from now on
+    Seat(u64, u64),
+    // board, block: the board gives up its copy of the block's mark
+    Drop(u64, u64),
 }
 
 // What a granted call answers.

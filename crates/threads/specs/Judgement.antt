@@ -28,6 +28,10 @@ faultOf why = record { layer = InStore; refusal = why }
 abbrev pub refused : Refusal → Verdict
 refused why = Err (faultOf why)
 
+-- threads are numbered from 0 to 15
+abbrev pub threadIn : ℕ → Verdict
+threadIn t = cond (ltb t 16) allowed (refused (ThreadOutOfRange t))
+
 -- only an idle thread begins, and only an open one does anything else
 abbrev pub judged : ℕ → View → Request → Verdict
 judged t v Begin = cond (v .isOpen) (refused (JobOpen t)) allowed

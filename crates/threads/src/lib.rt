@@ -14,6 +14,7 @@ use entry::Entry;
 pub use entry::Request;
 pub use entry::RequestDebug;
 pub use entry::RequestPartialEq;
+pub use methods::check_thread;
 pub use record::Undo;
 pub use record::UndoDebug;
 pub use record::UndoKeyed;

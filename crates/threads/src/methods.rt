@@ -3,7 +3,7 @@ ghost use mathlib.Core.Path.{_≡_};
 ghost use Prim.Native.Nat.{_≤_};
 ghost use lib.ListN.{length, set};
 ghost use Rattle.threads.specs.Entries.{idle, begun, notedIn};
-ghost use Rattle.threads.specs.Judgement.{judgeOf, roomOf};
+ghost use Rattle.threads.specs.Judgement.{judgeOf, roomOf, threadIn};
 ghost use Rattle.threads.specs.Tables.{tableOf, entryAt, allIdle};
 use crate::Request;
 use crate::THREADS;
@@ -90,4 +90,14 @@ impl Table {
         }
         self.entries[thread as usize].undo()
     }
+}
+
+// Refuses a number that is no thread's.
+pub fn check_thread(thread: u64) -> Result<(), Fault>
+    ensures { λ r. ⌜ r ≡ threadIn thread ⌝ }
+{
+    if thread >= THREADS as u64 {
+        return Err(fault_of(Refusal::ThreadOutOfRange(thread)));
+    }
+    Ok(())
 }

@@ -1,0 +1,3 @@
+pub mod Logged
+pub mod Shown
+pub mod Drawn

@@ -1,0 +1,6 @@
+mod Cutting
+mod Fronting
+mod Parsing
+mod Reading
+mod Rowing
+mod Spelling
