@@ -6,4 +6,6 @@ mod marks_fused;
 #[cfg(test)]
 mod memories;
 #[cfg(test)]
+mod scripts;
+#[cfg(test)]
 mod stores;

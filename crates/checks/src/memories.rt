@@ -121,3 +121,28 @@ fn windows(rt: LibcRuntime) -> Result<(), Fail> {
     check_eq(below.read(31), Ok(99))?;
     check_eq(below.read(32), Ok(33))
 }
+
+#[test]
+fn reports_of_any_length(rt: LibcRuntime) -> Result<(), Fail> {
+    for (bytes, blocks, trailing) in [
+        (0usize, 0u64, 0u64),
+        (5, 0, 5),
+        (64, 1, 0),
+        (130, 2, 2),
+        (4096, 64, 0),
+    ] {
+        let report = Image::over(vec![in rt.alloc(); 1; bytes]?);
+        let table = Plain::over(vec![in rt.alloc(); 0; 512]?);
+        let Ok((table, done)) = frames::unpack(&report, table) else {
+            return Err(Fail::new("refused"));
+        };
+        check_eq(done.blocks, blocks)?;
+        check_eq(done.words, 8 * blocks)?;
+        check_eq(done.trailing, trailing)?;
+        check_eq(
+            table.read(0),
+            Ok(if blocks > 0 { 0x0101_0101_0101_0101 } else { 0 }),
+        )?;
+    }
+    Ok(())
+}
