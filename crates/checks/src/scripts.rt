@@ -62,7 +62,14 @@ fn small_reports(rt: LibcRuntime) -> Result<(), Fail> {
     check(reports(&rt, b"b 1\nl 1 0\n", 0, b"")?)?;
     check(reports(&rt, b"b 1\nl 1 0\n", 63, b"")?)?;
     check(reports(&rt, b"b 1\nl 1 0\n", 64, b"1 ok\n")?)?;
+    check(reports(&rt, b"b 1\nl 1 0\n", 65, b"1 ok\n")?)?;
     check(reports(&rt, b"b 1\nl 1 0\n", 68, b"1 ok\n")?)?;
     check(reports(&rt, b"b 1\nl 1 0\n", 69, b"1 ok\n2 ok 5\n")?)?;
     check(reports(&rt, b"", 64, b"")?)
+}
+
+#[test]
+fn a_long_line(rt: LibcRuntime) -> Result<(), Fail> {
+    let long = vec![in rt.alloc(); 98u8; 30000]?;
+    check(reports(&rt, &long, 200, b"1 no T 11 1\n")?)
 }
