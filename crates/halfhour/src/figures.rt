@@ -8,40 +8,7 @@ const BAND_STEP: u64 = 50;
 // The largest number whose square is not above n.
 pub fn square_root(n: u64) -> u64 {
     let mut root = 0u64;
-    for bit in [
-        31u32,
-        30,
-        29,
-        28,
-        27,
-        26,
-        25,
-        24,
-        23,
-        22,
-        21,
-        20,
-        19,
-        18,
-        17,
-        16,
-        15,
-        14,
-        13,
-        12,
-        11,
-        10,
-        9,
-        8,
-        7,
-        6,
-        5,
-        4,
-        3,
-        2,
-        1,
-        0,
-    ] {
+    for bit in (0..32u32).rev() {
         let next = root.saturating_add(1u64.wrapping_shl(bit));
         if let Some(square) = next.checked_mul(next) {
             if square <= n {
