@@ -1,5 +1,7 @@
 // The board book: tokens are shown by marks on the boards and recorded in token logs, after
 // TokenTM.
+#![tactic(auto)]
+
 ghost use Rattle.std.specs.Prelude.{◌≡◌};
 ghost use Rattle.book.specs.Marking.{Marking};
 ghost use Rattle.book.specs.Picture.{fresh_picture, holdings_of};

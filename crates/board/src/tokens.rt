@@ -4,8 +4,8 @@ ghost use Rattle.book.specs.Balance.{entered};
 ghost use Rattle.book.specs.Picture.{credit_of, records_for};
 ghost use Rattle.board.specs.Logged.{records_in};
 
-use record_log::{Keyed, Log};
 use marks::Credit;
+use record_log::{Keyed, Log};
 
 // Tokens of one block, taken at one time.
 #[derive(Clone, Copy)]

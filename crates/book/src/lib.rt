@@ -2,6 +2,8 @@
 //
 // A block has 64 tokens. A thread takes one to load from the block and all to store to it, and
 // keeps them until it releases everything that it holds.
+#![tactic(auto)]
+
 ghost use Rattle.std.specs.Prelude.{◌≡◌};
 ghost use Rattle.book.specs.Holdings.{Holdings, Sound};
 ghost use Rattle.book.specs.Moves.{Move, loaded, stored, released, seated, dropped};

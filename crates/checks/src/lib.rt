@@ -1,4 +1,6 @@
 // Worked cases over all layers, proved to be safe and then run.
+#![tactic(auto)]
+
 #[cfg(test)]
 mod books;
 #[cfg(test)]

@@ -1,4 +1,6 @@
 // The console: runs a script on any store and writes its report.
+#![tactic(auto)]
+
 ghost use Rattle.std.specs.Prelude.{◌≡◌, ◌+◌, ◌≤◌, [], ◌∷◌, ◌++◌, length, take, drop};
 ghost use Rattle.console.specs.Runs.{CarriesAll, TravelsAll, TextRight, Reported, RanFresh, full_fault};
 ghost use Rattle.script.specs.Rows.{Within, row_of};

@@ -2,6 +2,8 @@
 //
 // A fault says which layer refused, and why. The number and the place of a refusal are what the
 // station prints; docs/REFUSALS.md lists them all.
+#![tactic(auto)]
+
 ghost use Rattle.std.specs.Prelude.{◌≡◌};
 ghost use Rattle.fault.specs.Numbers.{letter_of, number_of, place_of};
 

@@ -1,4 +1,6 @@
 // Frames of a buoy report: blocks of eight big-endian words, unpacked into a table of words.
+#![tactic(auto)]
+
 ghost use Rattle.std.specs.Prelude.{◌≡◌, Ok, MatchResult};
 ghost use Rattle.frames.specs.Frames.{copied, count_of, unpacked_answer, unpacked_table};
 

@@ -1,4 +1,6 @@
 // The full book: a table of all holdings, sixteen threads by sixty-four blocks.
+#![tactic(auto)]
+
 ghost use Rattle.std.specs.Prelude.{◌≡◌, ◌+◌, ◌*◌, ◌<◌};
 ghost use Rattle.book.specs.Holdings.{Lowest, is_in_the_way, blocks_held, cleared};
 ghost use Rattle.book.specs.Rules.{take_answer, after_take};

@@ -1,5 +1,7 @@
 // One buoy report through its four steps, each a held job over the board book, and what happens to the outgoing
 // record without jobs.
+#![tactic(auto)]
+
 mod figures;
 mod steps;
 

@@ -3,6 +3,8 @@
 // A held job is linear: its type has no `Drop`, so a program that lets one go without ending it does not compile, and
 // neither does one that uses it after its end. It holds its thread's number and nothing else; the store is lent to each
 // call, so that several jobs can be held at once and calls by thread number may go between.
+#![tactic(auto)]
+
 ghost use Rattle.std.specs.Prelude.{◌≡◌};
 ghost use Rattle.held.specs.Begun.{begun_as};
 ghost use Rattle.store.specs.States.{state_of, begin_answer, begin_state, load_answer, load_state, store_answer, store_state, commit_state, abort_state, Answered, done_of, word_of, ended_of};

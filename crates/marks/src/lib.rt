@@ -3,6 +3,8 @@
 // Every block has 64 tokens. A transaction takes one to load from the block and all 64 to store
 // to it. TokenTM keeps two books of that: a mark shows a debit (tokens taken from the block), a
 // token log records a credit (tokens that a thread took).
+#![tactic(auto)]
+
 ghost use Rattle.std.specs.Prelude.{◌≡◌, true};
 ghost use Rattle.marks.specs.States.{in_range};
 

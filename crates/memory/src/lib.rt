@@ -1,4 +1,6 @@
 // The memory under a store: a table of 64-bit words in blocks of eight.
+#![tactic(auto)]
+
 mod image;
 mod plain;
 mod window;

@@ -2,6 +2,8 @@
 //
 // Undo logs and token logs are both such logs, and both are searched by one rule: the latest
 // record with a given key.
+#![tactic(auto)]
+
 ghost use Rattle.std.specs.Prelude.{◌≡◌, ◌≤◌, length};
 
 use std::alloc::AllocError;

@@ -1,5 +1,7 @@
 // The text of the station's script: numbers, lines, fields, commands and the rows of a report.
 // It knows the store's calls and answers, and no store.
+#![tactic(auto)]
+
 mod commands;
 mod decimal;
 mod lines;

@@ -1,4 +1,6 @@
 // The station: runs a script from standard input on the board book over 512 zero words, and prints its report.
+#![tactic(auto)]
+
 use board::BoardBook;
 use console::run_fresh;
 use memory::Plain;

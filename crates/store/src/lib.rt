@@ -2,6 +2,8 @@
 //
 // A job is a transaction: it takes tokens on the blocks that it touches, stores new words in place, notes the old
 // ones in an undo log, and commits, or puts them back.
+#![tactic(auto)]
+
 mod calls;
 mod core_calls;
 mod made;

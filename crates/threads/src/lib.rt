@@ -3,6 +3,8 @@
 //
 // The table judges what is asked of a thread by the thread's state and by the room in its log. It
 // knows neither the memory nor the book of holdings.
+#![tactic(auto)]
+
 ghost use Rattle.std.specs.Prelude.{◌≡◌, length};
 
 mod entry;

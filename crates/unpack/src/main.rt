@@ -1,4 +1,6 @@
 // Unpacks a buoy report: reads its frames from standard input, and prints the words of each and what was done.
+#![tactic(auto)]
+
 use fault::Fault;
 use frames::Unpacked;
 use memory::{Image, Plain};

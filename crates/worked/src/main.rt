@@ -4,6 +4,8 @@
 //
 // Before that, the marks of one block through a worked sequence of takes.
 // Word 0 has the number of the half hour beside the wave height (word 1), word 8 has it beside the period (word 9).
+#![tactic(auto)]
+
 mod marked_block;
 
 use board::BoardBook;
