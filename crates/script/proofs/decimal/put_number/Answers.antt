@@ -7,7 +7,7 @@ use Rattle.script.proofs.decimal.put_number.Goals as goal
 pub returns : goal.returns
 returns c =
     let room : length (decimal c.args.n) ≤ length c.args.out.now = omega arith in
-    let added = c.add-number.ensures in
+    let added = c.add_number.ensures in
     record {
       answer = fronts-is added room;
       written = fronted-is added room;

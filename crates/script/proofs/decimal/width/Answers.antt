@@ -2,8 +2,8 @@ use Rattle.std.proofs.Common.{arith}
 use Rattle.script.proofs.Spelling.{width_one, width_step, width_le}
 use Rattle.script.proofs.decimal.width.Goals as goal
 
-pub overflow-add-count : goal.overflow-add-count
-overflow-add-count c = omega (arith, width_le c.args.n c.ranges.n.fits)
+pub overflow_add-count : goal.overflow_add-count
+overflow_add-count c = omega (arith, width_le c.args.n c.ranges.n.fits)
 
 pub digits-preserved : goal.digits-preserved
 digits-preserved c =

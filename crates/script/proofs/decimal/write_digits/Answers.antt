@@ -3,8 +3,8 @@ use Rattle.std.proofs.lemmas.Fmt.{decimal_nonempty}
 use Rattle.script.proofs.Spelling.{spelt_none, spelt_back, spelt-more, spelt-all}
 use Rattle.script.proofs.decimal.write_digits.Goals as goal
 
-pub overflow-sub-at : goal.overflow-sub-at
-overflow-sub-at c = omega (arith, decimal_nonempty c.args.n c.ranges.n.fits)
+pub overflow_sub-at : goal.overflow_sub-at
+overflow_sub-at c = omega (arith, decimal_nonempty c.args.n c.ranges.n.fits)
 
 pub digits-init : goal.digits-init
 digits-init c = spelt_none _ _ _ c.ranges.n.fits c.requires (omega (arith, decimal_nonempty c.args.n c.ranges.n.fits))
@@ -15,5 +15,5 @@ digits-preserved c = spelt-more _ _ _ _ c.digits.invariant c.digits-test.true
 pub returns : goal.returns
 returns c = spelt-all _ _ _ _ c.digits.invariant c.digits-test.false
 
-pub overflow-sub-at-in-digits : goal.overflow-sub-at-in-digits
-overflow-sub-at-in-digits c = spelt_back _ _ _ _ c.digits.invariant c.digits-test.true
+pub overflow_sub-at-in-digits : goal.overflow_sub-at-in-digits
+overflow_sub-at-in-digits c = spelt_back _ _ _ _ c.digits.invariant c.digits-test.true

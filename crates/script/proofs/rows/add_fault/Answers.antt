@@ -7,4 +7,4 @@ pub returns : goal.returns
 returns c =
     let text = text_from c.args.fault _ _ _ c.letter.ensures c.number.ensures c.place.ensures in
     adds_as text
-    (adds_more (adds_more c.add-bytes-at.ensures c.add-bytes-at-2.ensures (omega (arith, c.requires))) c.add-values.ensures (omega (arith, ap length text, c.requires)))
+    (adds_more (adds_more c.add_bytes-at.ensures c.add_bytes-at-2.ensures (omega (arith, c.requires))) c.add_values.ensures (omega (arith, ap length text, c.requires)))

@@ -12,8 +12,8 @@ returns-then-out-width c =
     record {
       answer = fronts-none _ row short;
       written = fronted-none _ row short;
-      short = λ within. omega (arith, length-row c.args.line c.args.outcome, c.outcome-length.ensures.within within);
-      room = λ within room. absurd (omega (arith, c.outcome-length.ensures.within within));
+      short = λ within. omega (arith, length-row c.args.line c.args.outcome, c.outcome_length.ensures.within within);
+      room = λ within room. absurd (omega (arith, c.outcome_length.ensures.within within));
     }
 
 pub returns : goal.returns
@@ -23,13 +23,13 @@ returns c =
     let fits : length (row_of line outcome) ≤ length c.args.out.now = omega (arith, length-row line outcome) in
     let added =
     adds_as (append_assoc (decimal line) (outcome_text outcome) (10 ∷ []))
-    (adds_more (adds_more c.add-number-at.ensures c.add-outcome-at.ensures (omega (arith, length-append (decimal line) (outcome_text outcome), length-row line outcome)))
-    c.add-bytes.ensures
+    (adds_more (adds_more c.add_number-at.ensures c.add_outcome-at.ensures (omega (arith, length-append (decimal line) (outcome_text outcome), length-row line outcome)))
+    c.add_bytes.ensures
     (omega (arith, ap length (append_assoc (decimal line) (outcome_text outcome) (10 ∷ [])))))
     in
     record {
       answer = fronts-is added fits;
       written = fronted-is added fits;
-      short = λ within. omega (arith, length-row line outcome, c.outcome-length.ensures.within within);
+      short = λ within. omega (arith, length-row line outcome, c.outcome_length.ensures.within within);
       room = λ _ _. front_length added fits;
     }

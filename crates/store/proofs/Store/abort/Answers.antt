@@ -6,9 +6,9 @@ use Rattle.store.proofs.Store.abort.Goals as goal
 
 pub returns : goal.returns
 returns g c =
-    let told = c.core-abort.ensures in
+    let told = c.core_abort.ensures in
     let before = c.args.self.now in
-    let after = c.core-abort.new.self in
+    let after = c.core_abort.new.self in
     let state = state_of g.M.Memory.words g.B.Book.holding in
     record {
       answer = told.answer;
@@ -17,5 +17,5 @@ returns g c =
       own = told.own_val;
       step =
           λ m h reached.
-          step m h (state before) (state after) (Abort c.args.thread) (ended_of c.core-abort.result) (g.met.B.Book.sound before.book) (g.met.B.Book.sound after.book) (g.met.M.Memory.whole before.memory) told.answer told.after reached;
+          step m h (state before) (state after) (Abort c.args.thread) (ended_of c.core_abort.result) (g.met.B.Book.sound before.book) (g.met.B.Book.sound after.book) (g.met.M.Memory.whole before.memory) told.answer told.after reached;
     }

@@ -6,9 +6,9 @@ use Rattle.store.proofs.Store.load.Goals as goal
 
 pub returns : goal.returns
 returns g c =
-    let told = c.core-load.ensures in
+    let told = c.core_load.ensures in
     let before = c.args.self.now in
-    let after = c.core-load.new.self in
+    let after = c.core_load.new.self in
     let state = state_of g.M.Memory.words g.B.Book.holding in
     record {
       answer = told.answer;
@@ -17,5 +17,5 @@ returns g c =
       own = told.own_val;
       step =
           λ m h reached.
-          step m h (state before) (state after) (Load c.args.thread c.args.address) (word_of c.core-load.result) (g.met.B.Book.sound before.book) (g.met.B.Book.sound after.book) (g.met.M.Memory.whole before.memory) (ap word_of told.answer) told.after reached;
+          step m h (state before) (state after) (Load c.args.thread c.args.address) (word_of c.core_load.result) (g.met.B.Book.sound before.book) (g.met.B.Book.sound after.book) (g.met.M.Memory.whole before.memory) (ap word_of told.answer) told.after reached;
     }

@@ -6,4 +6,4 @@ pub returns : goal.returns
 returns c =
     let whole : length c.args.self.now.copies ≡ 4 = search rules in
     let codes = four_codes c.args.self.now.copies c.index-self-0.result c.index-self-1.result c.index-self-2.result c.index-self-3.result whole in
-    rw (c.code.ensures, c.copy-code.ensures, c.copy-code-2.ensures, c.copy-code-3.ensures, c.copy-code-4.ensures, ← codes)
+    rw (c.code.ensures, c.copy_code.ensures, c.copy_code-2.ensures, c.copy_code-3.ensures, c.copy_code-4.ensures, ← codes)

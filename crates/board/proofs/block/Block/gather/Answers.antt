@@ -6,8 +6,8 @@ use Rattle.book.specs.Picture.{no_copies}
 use Rattle.board.proofs.Copies.{copies_from, copy_step}
 use Rattle.board.proofs.block.Block.gather.Goals as goal
 
-pub fuse-copy-home-requires : goal.fuse-copy-home-requires
-fuse-copy-home-requires c =
+pub fuse_copy-home-requires : goal.fuse_copy-home-requires
+fuse_copy-home-requires c =
     let l : c.boards.board < length c.args.self.now.copies = search rules in
     (copy_step c.boards.home.state c.args.self.now.copies c.boards.board c.index-self-board.result l c.boards.invariant.0).0
 
@@ -19,8 +19,8 @@ boards-preserved c =
     let x = c.index-self-board.result in
     let step = copy_step c.boards.home.state cs i x l c.boards.invariant.0 in
     let rest = drop (i + 1) (map state_in cs) in (
-      rw c.fuse-copy-home.ensures step.1,
-      ap (λ h. fold fused h rest) c.fuse-copy-home.ensures ∙ ap (fold fused c.boards.home.state) (sym (copies_from cs i x l)) ∙ c.boards.invariant.1,
+      rw c.fuse_copy-home.ensures step.1,
+      ap (λ h. fold fused h rest) c.fuse_copy-home.ensures ∙ ap (fold fused c.boards.home.state) (sym (copies_from cs i x l)) ∙ c.boards.invariant.1,
     )
 
 pub returns : goal.returns

@@ -10,11 +10,11 @@ use Rattle.board.proofs.block.Block.load.Goals as goal
 pub returns : goal.returns
 returns c =
     let m = marks_of c.args.self.now in
-    let found = c.copy-for-copy.ensures.value in
-    let home = ap (λ (m : Marks). m.home) c.copy-for-copy.ensures.after in
-    let copies = ap (λ (m : Marks). m.copies) c.copy-for-copy.ensures.after in
-    let read = c.read-by.ensures ∙ ap (read_by c.args.thread) found in
+    let found = c.copy_for-copy.ensures.value in
+    let home = ap (λ (m : Marks). m.home) c.copy_for-copy.ensures.after in
+    let copies = ap (λ (m : Marks). m.copies) c.copy_for-copy.ensures.after in
+    let read = c.read_by.ensures ∙ ap (read_by c.args.thread) found in
     record {
       answer = reader_passes (copy_or_split m c.args.board) (λ x e. c.in-default.not-Writer x (c.state.ensures ∙ found ∙ e));
-      after = rw (map-set state_in c.copy-for-copy.new.self.copies c.args.board (Some c.read-by.result), read, home, copies, set-set);
+      after = rw (map-set state_in c.copy_for-copy.new.self.copies c.args.board (Some c.read_by.result), read, home, copies, set-set);
     }

@@ -5,8 +5,8 @@ use Rattle.book.specs.Marking.{withdrawn}
 use Rattle.board.proofs.Copies.{copy_at}
 use Rattle.board.proofs.block.Block.withdraw.Goals as goal
 
-pub fuse-copy-self-requires : goal.fuse-copy-self-requires
-fuse-copy-self-requires c =
+pub fuse_copy-self-requires : goal.fuse_copy-self-requires
+fuse_copy-self-requires c =
     let l : c.args.board < length c.args.self.now.copies = search rules in
     rw (copy_at c.args.self.now.copies c.args.board c.index-self-board.result None l) at c.requires.1
 
@@ -15,5 +15,5 @@ unfolding withdrawn
 returns c =
     let l : c.args.board < length c.args.self.now.copies = search rules in
     let copy = copy_at c.args.self.now.copies c.args.board c.index-self-board.result None l in
-    let home = c.fuse-copy-self.ensures in
+    let home = c.fuse_copy-self.ensures in
     rw (map-set state_in c.args.self.now.copies c.args.board None, copy, home)

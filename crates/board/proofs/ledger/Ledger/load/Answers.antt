@@ -14,9 +14,9 @@ returns c =
     let uncredited : ltb 0 (credit_of b ((drawn k).logs t)) ≡ false = sym c.holds.ensures ∙ c.if-holds.false in
     let none : credit_of b ((drawn k).logs t) ≡ 0 = search rules in
     let w = loads (drawn k) t b (balanced_from (drawn k) c.requires.1.1) c.requires.0 c.requires.1.0 none in
-    let after = c.take-one.ensures.after in
+    let after = c.take_one.ensures.after in
     record {
-      answer = c.take-one.ensures.answer;
+      answer = c.take_one.ensures.answer;
       after = after ∙ sym (cond-false _ _ _ uncredited);
       held = ap holdings_of after ∙ w.held;
       kept = ∣ rw after w.kept ∣₁;

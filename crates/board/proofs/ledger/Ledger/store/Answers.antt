@@ -13,9 +13,9 @@ returns c =
     let b = c.args.block in
     let short : credit_of b ((drawn k).logs t) < 64 = search rules in
     let w = stores (drawn k) t b (balanced_from (drawn k) c.requires.1.1) c.requires.0 c.requires.1.0 short in
-    let after = c.take-all.ensures.after in
+    let after = c.take_all.ensures.after in
     record {
-      answer = c.take-all.ensures.answer;
+      answer = c.take_all.ensures.answer;
       after = after ∙ sym (cond-false _ _ _ (lt-leb 64 (credit_of b ((drawn k).logs t)) short));
       held = ap holdings_of after ∙ w.held;
       kept = ∣ rw after w.kept ∣₁;

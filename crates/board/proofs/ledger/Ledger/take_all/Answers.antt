@@ -53,8 +53,8 @@ returns-then-store c =
           ∙ store_granted (drawn k) t b own;
     }
 
-pub other-holder-requires : goal.other-holder-requires
-other-holder-requires c =
+pub other_holder-requires : goal.other_holder-requires
+other_holder-requires c =
     let k = c.args.self.now in
     let t = c.args.thread in
     let b = c.args.block in
@@ -87,6 +87,6 @@ returns c =
     let apart = apart_from k t b c.args.credit.0 c.index-blocks-block.result l c.requires.1.1.1.0 c.if-store.ensures.answer in
     let named = lowest-only (is_in_the_way Store (holdings_of (drawn k)) t b) 16 (Some c.in-Some.other) c.in-Some.ensures in
     record {
-      answer = ap Err c.refused-by.ensures ∙ w.refuses c.in-Some.other apart named;
+      answer = ap Err c.refused_by.ensures ∙ w.refuses c.in-Some.other apart named;
       after = refused-drawn k t b c.index-blocks-block.result c.store.new.self l apart c.if-store.ensures.after;
     }

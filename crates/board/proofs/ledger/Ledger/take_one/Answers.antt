@@ -16,8 +16,8 @@ load-requires c =
     let s = balanced_from (drawn k) c.requires.1.1.0 in
     (s.seated c.args.thread c.requires.0, rw here at (loads (drawn k) c.args.thread c.args.block s c.requires.0 c.requires.1.0 c.requires.1.1.1).range)
 
-pub returns-in-err-load : goal.returns-in-err-load
-returns-in-err-load c =
+pub returns-in_err-load : goal.returns-in_err-load
+returns-in_err-load c =
     let k = c.args.self.now in
     let t = c.args.thread in
     let b = c.args.block in
@@ -25,8 +25,8 @@ returns-in-err-load c =
     let here = block_at k.blocks b c.index-blocks-block.result l in
     let seat = (drawn k).seats t in
     let w = loads (drawn k) t b (balanced_from (drawn k) c.requires.1.1.0) c.requires.0 c.requires.1.0 c.requires.1.1.1 in
-    let p = err_from_is_err_and c.from-residual.result c.from-residual.ensures.1 in
-    let answered : load_answer (copy_or_split ((drawn k).marks b) seat) ≡ Err c.in-err-load.field-0.0 = ap (λ (m : Marks). load_answer (copy_or_split m seat)) here ∙ sym c.load.ensures.answer ∙ c.in-err-load.was in
+    let p = err_from_is_err_and c.from_residual.result c.from_residual.ensures.1 in
+    let answered : load_answer (copy_or_split ((drawn k).marks b) seat) ≡ Err c.in_err-load.field-0.0 = ap (λ (m : Marks). load_answer (copy_or_split m seat)) here ∙ sym c.load.ensures.answer ∙ c.in_err-load.was in
     let marks = c.load.ensures.after ∙ ap (λ (m : Marks). with_copy m seat (read_by t (copy_or_split m seat))) (sym here) in
     record {
       answer = rw (p.1, p.2) (sym answered ∙ w.answer);
@@ -50,7 +50,7 @@ returns c =
     let here = block_at k.blocks b c.index-blocks-block.result l in
     let seat = (drawn k).seats t in
     let w = loads (drawn k) t b (balanced_from (drawn k) c.requires.1.1.0) c.requires.0 c.requires.1.0 c.requires.1.1.1 in
-    let answered : load_answer (copy_or_split ((drawn k).marks b) seat) ≡ Ok c.in-ok-load.field-0 = ap (λ (m : Marks). load_answer (copy_or_split m seat)) here ∙ sym c.load.ensures.answer ∙ c.in-ok-load.was in
+    let answered : load_answer (copy_or_split ((drawn k).marks b) seat) ≡ Ok c.in_ok-load.field-0 = ap (λ (m : Marks). load_answer (copy_or_split m seat)) here ∙ sym c.load.ensures.answer ∙ c.in_ok-load.was in
     let marks = c.load.ensures.after ∙ ap (λ (m : Marks). with_copy m seat (read_by t (copy_or_split m seat))) (sym here) in
     record {
       answer = sym answered ∙ w.answer;

@@ -5,5 +5,5 @@ use Rattle.board.proofs.tokens.TokenLog.holds.Goals as goal
 
 pub returns : goal.returns
 returns c =
-    c.is-some.ensures ∙ ap is_some c.latest.ensures ∙ latest_found c.args.block (records_of c.args.self.now.records)
+    c.is_some.ensures ∙ ap is_some c.latest.ensures ∙ latest_found c.args.block (records_of c.args.self.now.records)
     ∙ holds_credit _ _ c.requires

@@ -11,8 +11,8 @@ use Rattle.full.proofs.table.FullBook.clear.Goals.{then-tokens-gt0, else-tokens-
 pub loop-block-init : goal.loop-block-init
 loop-block-init c = (omega arith, sym (count_none _), cleared-none (held_in c.args.self.now.cells) c.args.thread)
 
-pub invariant-of-self : goal.invariant-of-self
-invariant-of-self c =
+pub invariant_of-self : goal.invariant_of-self
+invariant_of-self c =
     let w = written c.loop-block.self.cells c.args.thread c.loop-block.block c.cell-at.result Nothing c.loop-block.self.whole c.requires (omega arith) c.cell-at.ensures in
     (search rules, (∣ rw w (give_kept (held_in c.loop-block.self.cells) c.args.thread c.loop-block.block (sound_from _ c.loop-block.self.sound)) ∣₁, tt))
 

@@ -7,8 +7,8 @@ use Rattle.full.specs.Held.{held_in}
 use Rattle.full.proofs.Cells.{written}
 use Rattle.full.proofs.table.FullBook.take_for.Goals as goal
 
-pub invariant-of-self : goal.invariant-of-self
-invariant-of-self c =
+pub invariant_of-self : goal.invariant_of-self
+invariant_of-self c =
     let l : c.args.thread < 16 = search rules in
     let m : c.args.block < 64 = search rules in
     let free : lowest_in_the_way c.args.take (held_in c.args.self.now.cells) c.args.thread c.args.block ≡ None = lowest-only _ 16 None c.in-None.ensures in

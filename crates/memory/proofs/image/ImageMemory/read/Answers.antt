@@ -4,12 +4,12 @@ use Rattle.memory.specs.Answered.{read-within, read_past}
 use Rattle.memory.specs.Images.{length-image, get_or-image}
 use Rattle.memory.proofs.image.ImageMemory.read.Goals as goal
 
-pub word-at-requires : goal.word-at-requires
-word-at-requires c = omega (arith, length-image (vec_items c.args.self.now.buffer))
+pub word_at-requires : goal.word_at-requires
+word_at-requires c = omega (arith, length-image (vec_items c.args.self.now.buffer))
 
 pub returns : goal.returns
 returns c =
     let bytes = vec_items c.args.self.now.buffer in
     record {
-      answer = read-within _ _ _ (omega arith) (c.word-at.ensures ∙ ap (λ l. big_endian_word l (8 * c.args.address)) c.deref.ensures.value ∙ sym (get_or-image bytes _ (omega (arith, length-image bytes))));
+      answer = read-within _ _ _ (omega arith) (c.word_at.ensures ∙ ap (λ l. big_endian_word l (8 * c.args.address)) c.deref.ensures.value ∙ sym (get_or-image bytes _ (omega (arith, length-image bytes))));
     }

@@ -10,20 +10,20 @@ pub returns-then-address-size : goal.returns-then-address-size
 returns-then-address-size c =
     let bytes = vec_items c.args.self.now.buffer in
     record {
-      answer = ap Err c.out-of-range.ensures ∙ write-past _ _ (omega arith);
+      answer = ap Err c.out_of_range.ensures ∙ write-past _ _ (omega arith);
       after = sym (set_past _ _ _ (omega arith));
       beyond = refl;
       bytes = after_past bytes _ c.args.word (omega (arith, length-image bytes));
     }
 
-pub put-word-requires : goal.put-word-requires
-put-word-requires c = omega (arith, length-image (vec_items c.args.self.now.buffer))
+pub put_word-requires : goal.put_word-requires
+put_word-requires c = omega (arith, length-image (vec_items c.args.self.now.buffer))
 
 pub returns : goal.returns
 returns c =
     let bytes = vec_items c.args.self.now.buffer in
     let inside : c.args.address < 8 * whole_blocks (length bytes) 64 = omega (arith, length-image bytes) in
-    let is = with_items_is c.args.self.now.buffer c.put-word.new.bytes (search rules) ∙ c.put-word.ensures ∙ ap (λ l. overwritten l (8 * c.args.address) (word_bytes c.args.word)) c.deref-mut.ensures.value in
+    let is = with_items_is c.args.self.now.buffer c.put_word.new.bytes (search rules) ∙ c.put_word.ensures ∙ ap (λ l. overwritten l (8 * c.args.address) (word_bytes c.args.word)) c.deref_mut.ensures.value in
     record {
       answer = write-within _ _ (omega arith);
       after = image-set bytes _ _ inside c.ranges.word.fits _ is;

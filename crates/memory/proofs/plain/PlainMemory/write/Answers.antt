@@ -8,7 +8,7 @@ pub returns-then-address-size : goal.returns-then-address-size
 returns-then-address-size c =
     let buffer = vec_items c.args.self.now.buffer in
     record {
-      answer = ap Err c.out-of-range.ensures ∙ write-past _ _ (omega (arith, length-plain buffer));
+      answer = ap Err c.out_of_range.ensures ∙ write-past _ _ (omega (arith, length-plain buffer));
       after = sym (set_past _ _ _ (omega (arith, length-plain buffer)));
       beyond = refl;
     }

@@ -8,7 +8,7 @@ use Rattle.memory.proofs.window.WindowMemory.write.Goals as goal
 pub returns-then-address-size : goal.returns-then-address-size
 returns-then-address-size g c =
     record {
-      answer = ap Err c.out-of-range.ensures ∙ write-past _ _ (omega arith);
+      answer = ap Err c.out_of_range.ensures ∙ write-past _ _ (omega arith);
       after = sym (set_past _ _ _ (omega arith));
       beyond = refl;
     }
