@@ -95,7 +95,7 @@ impl Block {
         ensures after { marks_of self.new ≡ written_if result thread (gathered (marks_of self.old)) }
     {
         self.gather();
-        let own = self.home.debit() == credit;
+        let own = self.home.debit().equals(&credit);
         if own {
             self.home = mark(Metastate::Writer(thread));
         }

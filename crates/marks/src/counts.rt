@@ -1,12 +1,8 @@
 // Two kinds of token count. A debit and a credit may be compared, and release takes a credit off
 // a debit; the types allow nothing else between them.
-ghost use Rattle.std.specs.Prelude.{◌≡◌, ◌-◌, ◌<◌, IsSomeAnd, Some, Decides, refl};
+ghost use Rattle.std.specs.Prelude.{◌≡◌, ◌-◌, ◌<◌, ◌↔◌, IsTrue, IsSomeAnd};
 ghost use Rattle.marks.specs.Counts.{sum_of};
-ghost use Rattle.std.specs.Ordering.{MatchOrdering, nat_cmp};
-ghost use Rattle.std.specs.Cmp.Rules.{comparing};
-ghost use Rattle.std.proofs.Common.{rules};
-ghost use Rattle.std.specs.Cmp as Keys;
-ghost use Rattle.std.specs.Cmp.{partial_order_from_agreeing_total};
+ghost use Rattle.std.specs.Ordering.{MatchOrdering};
 
 use std::cmp::Ordering;
 
@@ -33,6 +29,20 @@ impl Debit {
         ensures { result.0 ≡ sum_of self.0 other.0 }
     {
         Debit(self.0.saturating_add(other.0))
+    }
+
+    // Whether the debit is as large as the credit: `==` compares a debit with a debit alone.
+    pub fn equals(&self, other: &Credit) -> bool
+        ensures { IsTrue result ↔ (self.now.0 ≡ other.now.0) }
+    {
+        self.0 == other.0
+    }
+
+    // How the debit compares with the credit.
+    pub fn compares(&self, other: &Credit) -> Option<Ordering>
+        ensures { IsSomeAnd result (λ o. MatchOrdering o (self.now.0 < other.now.0) (self.now.0 ≡ other.now.0) (other.now.0 < self.now.0)) }
+    {
+        self.0.partial_cmp(&other.0)
     }
 
     // The debit that is left when a thread releases its credit: 0 where the credit is larger.
@@ -66,25 +76,5 @@ impl Credit {
         ensures { result.0 ≡ sum_of self.0 other.0 }
     {
         Credit(self.0.saturating_add(other.0))
-    }
-}
-
-impl PartialEq<Credit> for Debit {
-    ghost equals = { λ d c r. Decides r (d.0 ≡ c.0) };
-
-    ghost laws = { Keys.partial_equiv_from_equiv (Prim.search (comparing, rules)) };
-
-    fn eq(&self, other: &Credit) -> bool {
-        self.0 == other.0
-    }
-}
-
-impl PartialOrd<Credit> for Debit {
-    ghost partial_cmp = { λ d c. Some (nat_cmp d.0 c.0) };
-
-    ghost laws = { partial_order_from_agreeing_total (λ d c. nat_cmp d.0 c.0) (Prim.search (comparing, rules)) (λ _ _. refl) (Prim.search (comparing, rules)) };
-
-    fn partial_cmp(&self, other: &Credit) -> Option<Ordering> {
-        self.0.partial_cmp(&other.0)
     }
 }
