@@ -12,7 +12,7 @@ lines-preserved-then-not-is_empty g c =
     let free : 64 ≤ length c.args.report.now - c.lines.fill = omega (arith, c.lines.auto.report) in
     let line = c.run_line-outcome.ensures in
     let row = c.add_row-fill.ensures in
-    sofar-row g.M.Memory.beyond g.B.Book.holding g.B.Book.moves _ _ _ _ _ c.lines.number _ _ _ _ c.lines.invariant _ _ (c.split_line.ensures.lines some) (c.split_line.ensures.shorter some) filled free _ _ _ _ _ row.count row.short row.after line.text line.step line.own_val line.beyond
+    sofar-row g.M.Memory.beyond g.B.Book.holding g.B.Book.moves _ _ _ _ _ c.lines.number _ _ _ _ c.lines.invariant _ _ (c.split_line.ensures.lines some) (c.split_line.ensures.shorter some) filled free _ _ _ _ _ row.count row.short row.after line.text line.step line.own line.beyond
 
 pub lines-preserved : goal.lines-preserved
 lines-preserved g c =

@@ -14,7 +14,7 @@ returns-in-Ok g c =
       text = text-call 0 line _ _ parsed;
       within = within-answered before (fits_table c.args.store.now.table) c.in-Ok.call c.call.result told.answer;
       step = carries-call 0 line _ _ parsed _ _ told.step;
-      own = travels-call 0 line _ _ parsed g.B.Book.holding g.B.Book.moves before _ _ refl told.own_val;
+      own = travels-call 0 line _ _ parsed g.B.Book.holding g.B.Book.moves before _ _ refl told.own;
       beyond = told.beyond;
     }
 

@@ -2,5 +2,5 @@ use Rattle.std.proofs.Common.{Err, ap, ◌∙◌}
 use Rattle.script.proofs.Parsing.{missing_number}
 use Rattle.script.proofs.commands.number_at.Goals as goal
 
-pub returns-in-default : goal.returns-in-default
-returns-in-default c = ap Err c.refused.ensures ∙ missing_number _ _ (c.in-default.ensures c.requires)
+pub returns-in_default : goal.returns-in_default
+returns-in_default c = ap Err c.refused.ensures ∙ missing_number _ _ (c.in_default.ensures c.requires)

@@ -14,7 +14,7 @@ returns g c =
       answer = told.answer;
       after = told.after;
       beyond = told.beyond;
-      own = told.own_val;
+      own = told.own;
       step =
           λ m h reached.
           step m h (state before) (state after) (Abort c.args.thread) (ended_of c.core_abort.result) (g.met.B.Book.sound before.book) (g.met.B.Book.sound after.book) (g.met.M.Memory.whole before.memory) told.answer told.after reached;

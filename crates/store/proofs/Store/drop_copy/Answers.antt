@@ -14,7 +14,7 @@ returns g c =
       answer = told.answer;
       after = told.after;
       beyond = ap g.M.Memory.beyond told.memory;
-      own = told.own_val;
+      own = told.own;
       step =
           λ m h reached.
           step m h (state before) (state after) (Drop c.args.board c.args.block) (done_of c.core_drop.result) (g.met.B.Book.sound before.book) (g.met.B.Book.sound after.book) (g.met.M.Memory.whole before.memory) (ap done_of told.answer) told.after reached;

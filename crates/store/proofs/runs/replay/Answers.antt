@@ -11,7 +11,7 @@ turns-init g c =
 
 pub turns-preserved : goal.turns-preserved
 turns-preserved g c =
-    sofar-more g.M.Memory.words g.M.Memory.beyond g.B.Book.holding g.B.Book.moves _ _ c.turns.turns c.turns.turn-index _ _ _ c.call-answer.result (omega arith) c.turns.auto.turns c.turns.invariant c.call-answer.ensures.step c.call-answer.ensures.beyond c.call-answer.ensures.own_val
+    sofar-more g.M.Memory.words g.M.Memory.beyond g.B.Book.holding g.B.Book.moves _ _ c.turns.turns c.turns.turn-index _ _ _ c.call-answer.result (omega arith) c.turns.auto.turns c.turns.invariant c.call-answer.ensures.step c.call-answer.ensures.beyond c.call-answer.ensures.own
 
 pub returns : goal.returns
 returns g c =

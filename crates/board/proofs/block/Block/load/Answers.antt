@@ -15,6 +15,6 @@ returns c =
     let copies = ap (λ (m : Marks). m.copies) c.copy_for-copy.ensures.after in
     let read = c.read_by.ensures ∙ ap (read_by c.args.thread) found in
     record {
-      answer = reader_passes (copy_or_split m c.args.board) (λ x e. c.in-default.not-Writer x (c.state.ensures ∙ found ∙ e));
+      answer = reader_passes (copy_or_split m c.args.board) (λ x e. c.in_default.not-Writer x (c.state.ensures ∙ found ∙ e));
       after = rw (map-set state_in c.copy_for-copy.new.self.copies c.args.board (Some c.read_by.result), read, home, copies, set-set);
     }

@@ -14,7 +14,10 @@ loop-block-init c = (omega arith, sym (count_none _), cleared-none (held_in c.ar
 pub invariant_of-self : goal.invariant_of-self
 invariant_of-self c =
     let w = written c.loop-block.self.cells c.args.thread c.loop-block.block c.cell-at.result Nothing c.loop-block.self.whole c.requires (omega arith) c.cell-at.ensures in
-    (search rules, (∣ rw w (give_kept (held_in c.loop-block.self.cells) c.args.thread c.loop-block.block (sound_from _ c.loop-block.self.sound)) ∣₁, tt))
+    record {
+      whole = search rules;
+      sound = ∣ rw w (give_kept (held_in c.loop-block.self.cells) c.args.thread c.loop-block.block (sound_from _ c.loop-block.self.sound)) ∣₁;
+    }
 
 pub loop-block-preserved : goal.loop-block-preserved
 loop-block-preserved c =

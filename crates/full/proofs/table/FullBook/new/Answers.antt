@@ -3,7 +3,7 @@ use Rattle.full.proofs.Cells.{none_held, none_sound}
 use Rattle.full.proofs.table.FullBook.new.Goals as goal
 
 pub invariant_of-result : goal.invariant_of-result
-invariant_of-result c = (refl, (∣ none_sound 1024 ∣₁, tt))
+invariant_of-result c = record { whole = refl; sound = ∣ none_sound 1024 ∣₁ }
 
 pub returns : goal.returns
 returns c = none_held 1024

@@ -13,7 +13,10 @@ invariant_of-self c =
     let m : c.args.block < 64 = search rules in
     let free : lowest_in_the_way c.args.take (held_in c.args.self.now.cells) c.args.thread c.args.block ≡ None = lowest-only _ 16 None c.in-None.ensures in
     let w = written c.args.self.now.cells c.args.thread c.args.block c.cell-at.result c.after.result c.args.self.now.whole l m c.cell-at.ensures in
-    (search rules, (∣ rw (w, c.after.ensures) (raise-kept c.args.take (held_in c.args.self.now.cells) c.args.thread c.args.block (sound_from _ c.args.self.now.sound) free) ∣₁, tt))
+    record {
+      whole = search rules;
+      sound = ∣ rw (w, c.after.ensures) (raise-kept c.args.take (held_in c.args.self.now.cells) c.args.thread c.args.block (sound_from _ c.args.self.now.sound) free) ∣₁;
+    }
 
 pub returns-in-Some : goal.returns-in-Some
 returns-in-Some c =
