@@ -1,13 +1,12 @@
 -- One line as a turn of the store, and the room that its row needs.
-use Rattle.std.proofs.Common.{◌≡◌, ℕ, zero, suc, ◌+◌, ◌<◌, ◌≤◌, Bool, true, false, cond, ltb, List, [], ◌∷◌, length, Ok, Err, Result, sym, refl, ap, ◌∙◌, subst, arith}
+use Rattle.std.proofs.Common.{◌≡◌, ℕ, zero, suc, ◌+◌, ◌≤◌, Bool, true, false, cond, ltb, List, [], ◌∷◌, length, Ok, Err, Result, sym, ap, ◌∙◌, subst, arith}
 use Rattle.fault.specs.declared.Fault.{Fault}
 use Rattle.book.specs.Holdings.{Holdings, count_below}
 use Rattle.book.specs.Moves.{Move}
 use Rattle.script.specs.Commands.{parse_of}
 use Rattle.script.specs.Rows.{Within}
 use Rattle.threads.specs.Tables.{entry_at}
-use Rattle.store.specs.States.{State, Answered, EndAnswer, Ends, done_of, word_of}
-use Rattle.store.specs.Histories.{History}
+use Rattle.store.specs.States.{State, Answered, EndAnswer, done_of, word_of}
 use Rattle.store.specs.Moved.{MovedBy, move_of}
 use Rattle.store.specs.Reached.{Reached, Carries}
 use Rattle.store.specs.Promises.{Travelled, onward}
@@ -15,7 +14,7 @@ use Rattle.store.specs.declared.Answer.{Answer}
 use Rattle.store.specs.declared.Answer.TheVariants.{Done, Word, Ended}
 use Rattle.store.specs.declared.Call.{Call}
 use Rattle.store.specs.declared.Call.TheVariants.{Begin, Load, Store, Commit, Abort, Seat, Drop}
-use Rattle.console.specs.Runs.{Entry, RefusedBy, TextRight, turn_of, turns_from, CarriesAll, TravelsAll}
+use Rattle.console.specs.Runs.{Entry, RefusedBy, turn_of, turns_from, CarriesAll, TravelsAll}
 
 count_le : (p : ℕ → Bool) (n : ℕ) → count_below p n ≤ n
 unfolding count_below

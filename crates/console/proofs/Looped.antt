@@ -2,7 +2,7 @@
 use Rattle.std.proofs.Common.{◌≡◌, ℕ, ◌+◌, ◌-◌, ◌<◌, ◌≤◌, List, [], ◌∷◌, ◌++◌, length, take, drop, Some, None, Option, Result, sym, refl, ap, ◌∙◌, subst, append_assoc, append-nil, arith}
 use Rattle.std.specs.List.{AllByRecursion as All}
 use Rattle.std.proofs.ByRecursion.{All-push}
-use Rattle.std.proofs.lemmas.List.{length-append, length-drop, take_at, drop_at, drop-drop, nil_from_length}
+use Rattle.std.proofs.lemmas.List.{length-append, take_at, drop_at, drop-drop, nil_from_length}
 use Rattle.fault.specs.declared.Fault.{Fault}
 use Rattle.book.specs.Holdings.{Holdings}
 use Rattle.book.specs.Moves.{Move}

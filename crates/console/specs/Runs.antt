@@ -10,7 +10,7 @@ use Rattle.book.specs.Picture.{Picture}
 use Rattle.script.specs.Commands.{parse_of}
 use Rattle.script.specs.Rows.{row_of}
 use Rattle.store.specs.States.{State, state_of}
-use Rattle.store.specs.Histories.{History, Told}
+use Rattle.store.specs.Histories.{History}
 use Rattle.store.specs.Reached.{Reached}
 use Rattle.store.specs.Moved.{Releases}
 use Rattle.store.specs.Promises.{Promised, Travelled, TokensShown}

@@ -1,6 +1,6 @@
 -- The search for the latest record: what one more record at the end changes, and what it means.
 use Rattle.std.proofs.Common.{◌≡◌, ℕ, ◌+◌, ◌-◌, ◌<◌, ◌≤◌, Bool, true, false, cond, eqb, List, [], ◌∷◌, ◌++◌, length, get_or, take, Some, None, Option, sym, refl, ap, ◌∙◌, arith}
-use Rattle.record_log.specs.Latest.{latest_of, or_else, IsLatest, Lacks, Stands}
+use Rattle.record_log.specs.Latest.{latest_of, or_else, IsLatest, Lacks}
 use Rattle.std.proofs.lemmas.List.{take_more}
 use Rattle.std.proofs.lemmas.Bool.{eqb-true, eqb-false, eq-eqb, ne_eqb, cond-true, cond-false}
 

@@ -1,9 +1,8 @@
 -- Bytes cut at a separator: the first piece, the rest, and the pieces put together again.
-use Rattle.std.proofs.Common.{◌≡◌, ℕ, suc, ◌+◌, ◌-◌, ◌<◌, ◌≤◌, Bool, true, false, cond, eqb, ◌⊎◌, List, [], ◌∷◌, ◌++◌, length, get_or, take, drop, sym, refl, ap, ◌∙◌, subst, inl, inr, ⊎_elim, add-zero, add-one, arith}
-use Rattle.std.specs.List.{AllByRecursion as All}
+use Rattle.std.proofs.Common.{◌≡◌, ℕ, suc, ◌+◌, ◌-◌, ◌<◌, ◌≤◌, eqb, List, [], ◌∷◌, length, get_or, take, drop, sym, refl, ap, ◌∙◌, subst, ⊎_elim, add-zero, add-one, arith}
 use Rattle.std.proofs.lemmas.List.{at_drop_more, at_drop_all, drop-drop, get_or-drop, take_rest, take_all, drop_all, length-drop, length-take}
 use Rattle.std.proofs.lemmas.Bool.{cases_eq, cases_lt, eq-eqb, ne_eqb, eqb-true, cond-true, cond-false, cond_both}
-use Rattle.script.specs.Pieces.{on_first, cut, lines_of, fields_of, before, behind, ended, joined_by, closed, Apart, EndLaw, FieldLaw}
+use Rattle.script.specs.Pieces.{on_first, cut, fields_of, before, behind, ended, joined_by, closed, Apart, EndLaw, FieldLaw}
 
 module _ (sep c : ℕ) (cs : List ℕ) where
   before-hit : c ≡ sep → before sep (c ∷ cs) ≡ []

@@ -1,5 +1,5 @@
 -- The fields of a line by its first two bytes.
-use Rattle.std.proofs.Common.{◌≡◌, ℕ, suc, ◌+◌, ◌-◌, ◌<◌, ◌≤◌, cond, ◌⊎◌, List, [], ◌∷◌, length, get_or, drop, None, Err, sym, refl, ap, ◌∙◌, ⊎_elim, one-add, arith}
+use Rattle.std.proofs.Common.{◌≡◌, ℕ, suc, ◌+◌, ◌-◌, ◌<◌, ◌≤◌, List, [], ◌∷◌, length, get_or, drop, None, Err, sym, refl, ap, ◌∙◌, ⊎_elim, one-add, arith}
 use Rattle.fault.specs.declared.Refusal.TheVariants.{UnknownCommand, NotANumber}
 use Rattle.std.proofs.lemmas.List.{get_or_past}
 use Rattle.std.proofs.lemmas.Bool.{cases_eq, ne_eqb, cond-false}

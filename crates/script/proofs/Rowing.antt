@@ -1,14 +1,13 @@
 -- The parts of a row, and their lengths.
-use Rattle.std.proofs.Common.{◌≡◌, ℕ, ◌+◌, ◌^◌, ◌<◌, ◌≤◌, List, [], ◌∷◌, ◌++◌, length, codes, decimal, Result, sym, refl, ap, ◌∙◌, arith}
+use Rattle.std.proofs.Common.{◌≡◌, ℕ, ◌+◌, ◌<◌, ◌≤◌, [], ◌∷◌, ◌++◌, length, codes, decimal, Result, sym, ap, ◌∙◌, arith}
 use Rattle.std.proofs.lemmas.Fmt.{length-decimal-le}
-use Rattle.std.proofs.lemmas.List.{append-nil, append_assoc, length-append}
+use Rattle.std.proofs.lemmas.List.{append-nil, length-append}
 use Rattle.fault.specs.Numbers.{letter_of, number_of, place_of}
 use Rattle.fault.specs.declared.Fault.{Fault}
 use Rattle.fault.specs.declared.Refusal.{Refusal}
 use Rattle.fault.specs.declared.Refusal.TheVariants.{ThreadOutOfRange, JobOpen, NoJobOpen, AddressOutOfRange, UndoLogFull, LoadConflict, StoreConflict, BoardOutOfRange, BlockOutOfRange, MarksApart, UnknownCommand, WrongFieldCount, NotANumber, ReportFull}
 use Rattle.store.specs.declared.Answer.{Answer}
-use Rattle.store.specs.declared.Answer.TheVariants.{Done, Word, Ended}
-use Rattle.script.specs.Rows.{answer_text, fault_text, outcome_text, row_of, spaced}
+use Rattle.script.specs.Rows.{fault_text, outcome_text, row_of, spaced}
 
 -- one value, and two
 pub spaced-one : (v : ℕ) → spaced (v ∷ []) ≡ 32 ∷ decimal v

@@ -7,10 +7,10 @@ use Rattle.fault.specs.declared.Refusal.TheVariants.{LoadConflict, StoreConflict
 use Rattle.book.specs.Holdings.{first_below, Lowest}
 use Rattle.book.specs.Rules.{by_book}
 use Rattle.book.proofs.Below.{lowest, lowest-only}
-use Rattle.threads.specs.Judgement.{allowed, Verdict}
+use Rattle.threads.specs.Judgement.{Verdict}
 use Rattle.store.specs.States.{and_then, block_of, done_of, word_of}
 use Rattle.store.specs.Histories.{History, Event, Access, events, job_of, alone, serial_words}
-use Rattle.store.specs.Rules.{Answers, Rightly, open_rule, address_rule, room_rule, stored_by_other, touched_by_other, unless_held}
+use Rattle.store.specs.Rules.{Answers, Rightly, address_rule, room_rule, stored_by_other, touched_by_other, unless_held}
 use Rattle.store.specs.Promises.{ExactlyWhen, Conflicts, AllConflicts}
 use Rattle.store.specs.declared.Answer.{Answer}
 use Rattle.store.specs.declared.Answer.TheVariants.{Done, Word}

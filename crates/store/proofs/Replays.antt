@@ -8,7 +8,7 @@ use Rattle.store.specs.States.{state_of}
 use Rattle.store.specs.Histories.{History, Told}
 use Rattle.store.specs.Moved.{Releases, MovedBy, move_of}
 use Rattle.store.specs.Reached.{Reached, Carries}
-use Rattle.store.specs.Promises.{Promised, LedTo, Travelled, start, onward, slot_of, Replayed}
+use Rattle.store.specs.Promises.{Travelled, start, onward, slot_of, Replayed}
 use Rattle.store.specs.declared.Answer.{Answer}
 use Rattle.store.specs.declared.Call.{Call}
 use Rattle.store.specs.declared.Store.{Store}

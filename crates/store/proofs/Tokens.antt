@@ -1,12 +1,12 @@
 -- The tokens that marks show, counted by the open jobs.
-use Rattle.std.proofs.Common.{◌≡◌, ℕ, zero, suc, ◌+◌, ◌<◌, ◌≤◌, Bool, true, false, cond, is_some, Some, None, Option, sym, refl, ap, ◌∙◌, ⊎_elim, arith}
-use Rattle.std.proofs.lemmas.Bool.{cases_eq, cases_lt, cond-true, cond-false}
+use Rattle.std.proofs.Common.{◌≡◌, ℕ, zero, suc, ◌+◌, ◌<◌, Bool, cond, is_some, Some, None, Option, refl, ap, ◌∙◌, ⊎_elim, arith}
+use Rattle.std.proofs.lemmas.Bool.{cases_eq, cond-true, cond-false}
 use Rattle.book.specs.Holdings.{Holdings, Sound, first_below, count_below, Lowest}
 use Rattle.book.specs.Picture.{Picture, shown, column, sum_below}
 use Rattle.book.proofs.Below.{lowest}
 use Rattle.store.specs.Histories.{History, events, job_of, stored_in, touched}
 use Rattle.store.specs.Reached.{holding_of}
-use Rattle.store.specs.Promises.{tokens_rule, TokensShown}
+use Rattle.store.specs.Promises.{tokens_rule}
 
 -- sums of values below n
 sum_same : (f g : ℕ → ℕ) (n : ℕ) → ((k : ℕ) → k < n → f k ≡ g k) → sum_below f n ≡ sum_below g n

@@ -1,7 +1,7 @@
 -- Histories of one store, and what is read off them: jobs, serial words, loads.
 --
 -- A turn is a call with its answer. A history has the turns of one fresh store, the newest first.
-use Rattle.std.specs.Prelude.{◌≡◌, ℕ, Bool, true, false, cond, not, ◌&&◌, ◌||◌, List, [], ◌∷◌, ◌++◌, map, is_some, is_ok, Some, None, Ok, Err, Option, Result, ◌==◌, slice_index, slice_set}
+use Rattle.std.specs.Prelude.{◌≡◌, ℕ, Bool, true, false, cond, ◌||◌, List, [], ◌∷◌, ◌++◌, map, is_some, is_ok, Some, None, Ok, Err, Option, Result, ◌==◌, slice_index, slice_set}
 use Rattle.std.specs.Option.{option_map, unwrap_or}
 use Rattle.fault.specs.declared.Fault.{Fault}
 use Rattle.store.specs.States.{block_of}

@@ -3,7 +3,7 @@ use Rattle.std.proofs.Common.{◌≡◌, ℕ, zero, suc, ◌≤◌, Bool, true, 
 use Rattle.record_log.proofs.Search.{latest_push}
 use Rattle.record_log.specs.Latest.{latest_of}
 use Rattle.std.proofs.lemmas.List.{length-take}
-use Rattle.threads.specs.Entries.{View, entry_of, idle, logged_in}
+use Rattle.threads.specs.Entries.{entry_of, idle, logged_in}
 use Rattle.threads.specs.Tables.{table_of, entry_at}
 use Rattle.threads.specs.declared.Table.{Table}
 use Rattle.threads.specs.declared.entry.Entry.{Entry}

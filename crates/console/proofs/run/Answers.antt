@@ -1,4 +1,4 @@
-use Rattle.std.proofs.Common.{◌-◌, ◌<◌, ◌≤◌, length, Some, sym, refl, ap, ◌∙◌, arith, true-eqb, false-eqb}
+use Rattle.std.proofs.Common.{◌-◌, ◌<◌, ◌≤◌, length, Some, refl, ap, arith, true-eqb, false-eqb}
 use Rattle.console.proofs.Looped.{sofar-none, sofar-skip, sofar-stop, sofar-row, sofar-all}
 use Rattle.console.proofs.run.Goals as goal
 

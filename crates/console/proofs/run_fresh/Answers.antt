@@ -1,6 +1,5 @@
-use Rattle.std.proofs.Common.{◌≡◌, [], sym, ap, ◌∙◌, subst}
+use Rattle.std.proofs.Common.{[], ap, ◌∙◌}
 use Rattle.store.specs.States.{state_of}
-use Rattle.store.specs.Reached.{Reached}
 use Rattle.store.specs.Promises.{start}
 use Rattle.store.proofs.Promised.{promised}
 use Rattle.store.proofs.Tokens.{tokens-shown}

@@ -1,4 +1,4 @@
-use Rattle.std.proofs.Common.{sym, refl, ◌∙◌}
+use Rattle.std.proofs.Common.{refl}
 use Rattle.threads.proofs.Logs.{fits_table}
 use Rattle.store.specs.States.{state_of}
 use Rattle.console.proofs.Lines.{within-answered, text-call, carries-call, travels-call, text-refused, carries-refused, travels-refused}

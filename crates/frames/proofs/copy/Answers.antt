@@ -1,7 +1,6 @@
-use Rattle.std.proofs.Common.{◌≡◌, ◌<◌, length, set, sym, ap, ◌∙◌, subst, arith}
+use Rattle.std.proofs.Common.{length, set, sym, ap, ◌∙◌, arith}
 use Rattle.memory.specs.Answered.{read-granted, write-not-refused}
 use Rattle.frames.proofs.Copies.{length-partly, copy_step}
-use Rattle.frames.proofs.copy.Given as given
 use Rattle.frames.proofs.copy.Goals as goal
 
 pub returns-in_err-write : goal.returns-in_err-write

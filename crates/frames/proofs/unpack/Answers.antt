@@ -1,4 +1,4 @@
-use Rattle.std.proofs.Common.{◌≡◌, ℕ, ◌*◌, length, vec_items, ap, ◌∙◌, arith, rules}
+use Rattle.std.proofs.Common.{◌≡◌, ◌*◌, length, vec_items, ap, ◌∙◌, arith, rules}
 use Rattle.memory.specs.Buffers.{plain_words, image_words}
 use Rattle.memory.specs.Windows.{window_words}
 use Rattle.frames.specs.Frames.{count_of, unpacked_blocks}

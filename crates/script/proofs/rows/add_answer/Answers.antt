@@ -1,6 +1,5 @@
-use Rattle.std.proofs.Common.{length, sym, ap, subst, arith}
+use Rattle.std.proofs.Common.{length, sym, ap, arith}
 use Rattle.script.specs.Rows.{answer_text}
-use Rattle.script.specs.Writing.{Adds}
 use Rattle.script.proofs.Fronting.{adds_more, adds_as}
 use Rattle.script.proofs.rows.add_answer.Goals as goal
 

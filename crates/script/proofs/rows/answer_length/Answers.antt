@@ -1,4 +1,4 @@
-use Rattle.std.proofs.Common.{◌≡◌, length, Ok, sym, ap, ◌∙◌, subst, arith}
+use Rattle.std.proofs.Common.{length, Ok, ap, subst, arith}
 use Rattle.script.specs.Rows.{Within, answer_text}
 use Rattle.script.proofs.Rowing.{length_two, width_pair}
 use Rattle.script.proofs.rows.answer_length.Goals as goal

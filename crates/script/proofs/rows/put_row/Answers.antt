@@ -1,4 +1,4 @@
-use Rattle.std.proofs.Common.{◌≡◌, ◌+◌, ◌<◌, ◌≤◌, [], ◌∷◌, length, decimal, sym, ap, ◌∙◌, arith}
+use Rattle.std.proofs.Common.{◌<◌, ◌≤◌, [], ◌∷◌, length, decimal, ap, arith}
 use Rattle.std.proofs.lemmas.List.{append_assoc, length-append}
 use Rattle.script.specs.Rows.{outcome_text, row_of}
 use Rattle.script.proofs.Fronting.{adds_more, adds_as, front_length, fronts-is, fronted-is, fronts-none, fronted-none}

@@ -1,4 +1,3 @@
-use Rattle.std.proofs.Common.{ap}
 use Rattle.store.specs.States.{state_of, ended_of}
 use Rattle.store.specs.declared.Call.TheVariants.{Abort}
 use Rattle.store.proofs.Step.{step}

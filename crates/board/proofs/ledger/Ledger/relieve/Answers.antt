@@ -1,4 +1,4 @@
-use Rattle.std.proofs.Common.{◌≡◌, ◌-◌, ◌<◌, ◌≤◌, length, get_or, sym, ap, ◌∙◌, rules}
+use Rattle.std.proofs.Common.{◌≡◌, ◌<◌, ◌≤◌, length, get_or, sym, ap, ◌∙◌, rules}
 use Rattle.book.specs.Marking.{relieved, marked}
 use Rattle.book.specs.Picture.{Picture, credit_of, records_for, holdings_of}
 use Rattle.book.proofs.Balances.{balanced_from, agrees_coherent}

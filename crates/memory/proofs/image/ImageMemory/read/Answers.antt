@@ -1,6 +1,6 @@
-use Rattle.std.proofs.Common.{◌*◌, Err, vec_items, sym, ap, ◌∙◌, arith}
+use Rattle.std.proofs.Common.{◌*◌, vec_items, sym, ap, ◌∙◌, arith}
 use Rattle.memory.specs.Buffers.{big_endian_word}
-use Rattle.memory.specs.Answered.{read-within, read_past}
+use Rattle.memory.specs.Answered.{read-within}
 use Rattle.memory.specs.Images.{length-image, get_or-image}
 use Rattle.memory.proofs.image.ImageMemory.read.Goals as goal
 
