@@ -1,6 +1,6 @@
 -- A run that has come as far as one line.
 use Rattle.std.proofs.Common.{◌≡◌, ℕ, ◌+◌, ◌-◌, ◌<◌, ◌≤◌, List, [], ◌∷◌, ◌++◌, length, take, drop, Some, None, Option, Result, sym, refl, ap, ◌∙◌, subst, append_assoc, append-nil, arith}
-use Rattle.std.specs.List.{AllByRecursion as All}
+use Rattle.std.specs.List.{AllByRecursion}
 use Rattle.std.proofs.ByRecursion.{All-push}
 use Rattle.std.proofs.lemmas.List.{length-append, take_at, drop_at, drop-drop, nil_from_length}
 use Rattle.fault.specs.declared.Fault.{Fault}
@@ -36,7 +36,7 @@ module _ {M B : Type 0} (beyond : M → List (List ℕ)) (holding : B → Holdin
     pub filled : fill ≡ length (rows_of entries)
     pub fits : fill ≤ length report₀
     pub written : report ≡ rows_of entries ++ drop fill report₀
-    pub text : All TextRight entries
+    pub text : AllByRecursion TextRight entries
     pub carried : CarriesAll s₀ entries s
     pub travelled : TravelsAll holding R s₀ entries store₀.book store.book
     pub untouched : beyond store.memory ≡ beyond store₀.memory

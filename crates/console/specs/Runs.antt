@@ -1,6 +1,6 @@
 -- What a script's run leaves: rows, turns, and where it stopped.
 use Rattle.std.specs.Prelude.{◌≡◌, ℕ, ◌+◌, ◌-◌, ◌<◌, ◌≤◌, List, [], ◌∷◌, ◌++◌, length, drop, Some, None, Ok, Err, Option, Result}
-use Rattle.std.specs.List.{AllByRecursion as All}
+use Rattle.std.specs.List.{AllByRecursion}
 use Rattle.fault.specs.declared.Fault.{Fault}
 use Rattle.fault.specs.declared.Layer.TheVariants.{Text}
 use Rattle.fault.specs.declared.Refusal.TheVariants.{ReportFull}
@@ -82,7 +82,7 @@ pub record Reported {M B : Type 0} (beyond : M → List (List ℕ)) (holding : B
   pub fill : r.fill ≡ length (rows_of entries)
   pub rows : report' ≡ rows_of entries ++ drop r.fill report
   -- each outcome is the line's text refusal, or the store's answer to the line's call, made in order
-  pub text : All TextRight entries
+  pub text : AllByRecursion TextRight entries
   pub carried : CarriesAll s entries s'
   pub travelled : TravelsAll holding R s entries store.book store'.book
   pub untouched : beyond store'.memory ≡ beyond store.memory

@@ -1,6 +1,6 @@
 -- The latest record with a given key, in a list of records that has the oldest first.
 use Rattle.std.specs.Prelude.{◌≡◌, ℕ, cond, List, [], ◌∷◌, ◌++◌, Some, None, Option, ◌==◌, ◌≢◌}
-use Rattle.std.specs.List.{AllByRecursion as All}
+use Rattle.std.specs.List.{AllByRecursion}
 
 -- the first choice if there is one, otherwise the second
 abbrev pub or_else : {R : Type 0} → Option R → Option R → Option R
@@ -14,7 +14,7 @@ latest_of keyed k (r ∷ rs) = or_else (latest_of keyed k rs) (cond (keyed r == 
 
 -- no record has the key
 abbrev pub Lacks : {R : Type 0} → (R → ℕ) → ℕ → List R → Type 0
-Lacks keyed k rs = All (λ r. keyed r ≢ k) rs
+Lacks keyed k rs = AllByRecursion (λ r. keyed r ≢ k) rs
 
 -- r stands among the records with the key, and no record after it has the key
 pub record Stands {R : Type 0} (keyed : R → ℕ) (k : ℕ) (rs : List R) (r : R) : Type 0 where

@@ -1,6 +1,6 @@
 -- The lines of a script and the fields of a line: bytes cut at a separator.
 use Rattle.std.specs.Prelude.{◌≡◌, ℕ, cond, List, [], ◌∷◌, ◌++◌, ◌==◌, ◌≢◌}
-use Rattle.std.specs.List.{AllByRecursion as All}
+use Rattle.std.specs.List.{AllByRecursion}
 
 -- a byte more in front of the first piece, or alone where there is none
 unfoldable pub on_first : ℕ → List (List ℕ) → List (List ℕ)
@@ -48,7 +48,7 @@ closed sep (c ∷ d ∷ cs) = c ∷ closed sep (d ∷ cs)
 
 -- no piece holds a separator
 abbrev pub Apart : ℕ → List (List ℕ) → Type 0
-Apart sep ps = All (λ p. All (λ c. c ≢ sep) p) ps
+Apart sep ps = AllByRecursion (λ p. AllByRecursion (λ c. c ≢ sep) p) ps
 
 -- the pieces, each ended by the separator, are the text with its last piece ended
 pub record EndLaw (sep : ℕ) (text : List ℕ) : Type 0 where
