@@ -26,8 +26,9 @@ OWN_NAMES = {
     "takeOne": "one_taken",
     "wordAt": "big_endian_word",
 }
+NO_NAMES = {"use", "unfolding", "pub", "in", "let", "record", "elim"}
 DECLARED = re.compile(
-    r"^(?:abbrev |unfoldable )?(?:pub )?(?:abbrev |unfoldable )?(?:pub )?([a-z][A-Za-z0-9_'\-]*)\s*(?::(?!:)|$)")
+    r"^(  )?(?:abbrev |unfoldable )?(?:pub )?(?:abbrev |unfoldable )?(?:pub )?([a-z][A-Za-z0-9_'\-]*)\s*(?::(?!:)|$)")
 
 
 def files():
@@ -36,24 +37,25 @@ def files():
 
 
 def declared(paths):
-    """The names that files of specs/ and shared files of proofs/ declare, without the goals that answers name."""
-    names = set()
+    """The names that files of specs/ and shared files of proofs/ declare, also in a module with parameters, without the
+    goals that answers name."""
+    names, within = set(), set()
     for path in paths:
         if path.endswith((".rt", "Answers.antt", "Invariants.antt")):
             continue
         for line in open(path, encoding="utf-8"):
             found = DECLARED.match(line)
             if found:
-                names.add(found.group(1))
+                (within if found.group(1) else names).add(found.group(2))
     for path in paths:
         if not path.endswith("Answers.antt"):
             continue
         text = open(path, encoding="utf-8").read()
         for line in text.split("\n"):
             found = DECLARED.match(line)
-            if found and "goal." not in line:
-                names.add(found.group(1))
-    return names - {"use", "unfolding", "pub", "in", "let", "record", "elim"}
+            if found and not found.group(1) and "goal." not in line:
+                names.add(found.group(2))
+    return names - NO_NAMES, within - NO_NAMES
 
 
 def snake(word):
@@ -62,11 +64,11 @@ def snake(word):
 
 
 def renaming(paths):
-    names = declared(paths)
+    names, within = declared(paths)
     tokens = collections.Counter()
     for path in paths:
         tokens.update(TOKEN.findall(open(path, encoding="utf-8").read()))
-    old = {n for n in names if "-" in n or CAMEL.match(n)}
+    old = {n for n in names | within if "-" in n or CAMEL.match(n)}
     old |= {t for t in tokens if t[0].islower() and CAMEL.match(t.split("-")[0]) and t not in UNITS}
     known = STD_WORDS | {snake(n) for n in names if "-" not in n}
     new = {}

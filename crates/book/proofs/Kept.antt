@@ -12,7 +12,7 @@ use Rattle.book.specs.declared.Take.TheVariants.{Load, Store}
 use Rattle.book.specs.Holdings.{Holdings, Sound, put, cleared, wanted, is_in_the_way, lowest_in_the_way}
 use Rattle.book.specs.Rules.{after_take, after_release}
 use Rattle.book.proofs.Below.{lowest-at}
-use Rattle.book.proofs.Takes.{Taken, no-thread, no_block, enough, barred, raised, taken}
+use Rattle.book.proofs.Takes.{Taken, no_thread, no_block, enough, barred, raised, taken}
 
 -- soundness has one proof at most, so a struct's ghost field can keep it
 pub sound_prop : (H : Holdings) → IsProp (Sound H)
@@ -49,7 +49,7 @@ pub take-kept : (k : Take) (H : Holdings) (t b : ℕ) → Sound H → Sound (aft
 take-kept k H t b s = keep (taken k H t b)
   where
     keep : {r : Result (Unit {0}) Fault} {H' : Holdings} → Taken k H t b r H' → Sound H'
-    keep (no-thread l) = s
+    keep (no_thread l) = s
     keep (no_block l m) = s
     keep (enough l m n) = s
     keep (barred u l m n e) = s

@@ -41,9 +41,9 @@ module _ {M B : Type 0} (beyond : M → List (List ℕ)) (holding : B → Holdin
     pub travelled : TravelsAll holding R s₀ entries store₀.book store.book
     pub untouched : beyond store.memory ≡ beyond store₀.memory
 
-  pub sofar-none : Sofar script 0 0 report₀ s₀ store₀
+  pub sofar_none : Sofar script 0 0 report₀ s₀ store₀
   unfolding rows_of turns_from
-  sofar-none =
+  sofar_none =
       record {
         entries = [];
         ahead = λ es stop runs. let none : length report₀ - 0 ≡ length report₀ = omega arith in subst (λ k. Runs 1 (lines_of script) k es stop) none runs;
@@ -128,9 +128,9 @@ module _ {M B : Type 0} (beyond : M → List (List ℕ)) (holding : B → Holdin
               untouched = kept ∙ far.untouched;
             }
 
-  pub sofar-all : (rest : List ℕ) (number fill : ℕ) (report : List ℕ) (s : State) (store : Store M B) → Sofar rest number fill report s store → length rest ≡ 0 → (r : Ran) → r.fill ≡ fill → r.stopped ≡ None → Reported beyond holding R s₀ store₀ script report₀ r report s store
+  pub sofar_all : (rest : List ℕ) (number fill : ℕ) (report : List ℕ) (s : State) (store : Store M B) → Sofar rest number fill report s store → length rest ≡ 0 → (r : Ran) → r.fill ≡ fill → r.stopped ≡ None → Reported beyond holding R s₀ store₀ script report₀ r report s store
   unfolding cut
-  sofar-all rest number fill report s store far none r is-fill is_stop =
+  sofar_all rest number fill report s store far none r is-fill is_stop =
       record {
         entries = far.entries;
         stop = None;

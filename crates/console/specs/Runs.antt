@@ -91,7 +91,7 @@ pub record Reported {M B : Type 0} (beyond : M → List (List ℕ)) (holding : B
 pub record RanFresh {M B : Type 0} (words : M → List ℕ) (beyond : M → List (List ℕ)) (holding : B → Holdings) (R : B → Move → B → Type 0) (picture : B → Picture) (memory : M) (book : B) (script report report' : List ℕ) (store : Store M B) (r : Ran) : Type 0 where
   -- the fresh store
   pub start : Store M B
-  pub memory-is : start.memory ≡ memory
+  pub memory_is : start.memory ≡ memory
   pub released : Releases R book 16 start.book
   -- rows and outcomes of the lines
   pub reported : Reported beyond holding R (state_of words holding start) start script report r report' (state_of words holding store) store

@@ -24,14 +24,14 @@ module _ (bytes table : List ℕ) where
   unfolding n ws frames
   blocks_is = omega (arith, length-plain table)
 
-  count-is : count_of (image_words bytes) (window_words (plain_words table) 0 (whole_blocks (length bytes) 64)) ≡ 8 * unpacked_blocks bytes table
-  count-is = omega (arith, length-image bytes, length-plain table, length-window (plain_words table) (whole_plain table) 0 (whole_blocks (length bytes) 64))
+  count_is : count_of (image_words bytes) (window_words (plain_words table) 0 (whole_blocks (length bytes) 64)) ≡ 8 * unpacked_blocks bytes table
+  count_is = omega (arith, length-image bytes, length-plain table, length-window (plain_words table) (whole_plain table) 0 (whole_blocks (length bytes) 64))
 
   -- the window is filled whole
   filled : copied (image_words bytes) (window_words ws 0 frames) ≡ take (8 * n) (image_words bytes)
   unfolding n ws frames
   filled =
-      ap (λ k. take k (image_words bytes) ++ drop k (window_words ws 0 frames)) count-is
+      ap (λ k. take k (image_words bytes) ++ drop k (window_words ws 0 frames)) count_is
       ∙ ap (λ l. take (8 * n) (image_words bytes) ++ l) (drop_all (8 * n) _ (omega (arith, blocks_is, length-window ws (whole_plain table) 0 frames)))
       ∙ append-nil _
 
@@ -64,7 +64,7 @@ module _ (bytes table : List ℕ) where
     ec = omega (arith, length-image bytes)
 
     pub count-told : count_of (image_words bytes) (window_words (plain_words table') first₀ count₀) ≡ 8 * unpacked_blocks bytes table
-    count-told = (λ i. count_of (image_words bytes) (window_words (plain_words (et i)) (ef i) (ec i))) ∙ count-is
+    count-told = (λ i. count_of (image_words bytes) (window_words (plain_words (et i)) (ef i) (ec i))) ∙ count_is
 
     pub unpacked : (after : List ℕ) (first count : ℕ) → window_words (plain_words after) first count ≡ copied (image_words bytes) (window_words (plain_words table') first₀ count₀) → window_beyond (plain_words after) first count ++ plain_beyond after ≡ window_beyond (plain_words table') first₀ count₀ ++ plain_beyond table' → after ≡ unpacked_table bytes table
     unpacked after first count inside beyond =

@@ -17,8 +17,8 @@ whole_plain buffer = whole_from (plain_words buffer) (whole_blocks (length buffe
 
 -- a write within the blocks is a write to their words, and leaves what lies behind
 module _ (buffer : List ℕ) (a w : ℕ) (lt : a < 8 * whole_blocks (length buffer) 8) where
-  pub plain-set : plain_words (slice_set buffer a w) ≡ slice_set (plain_words buffer) a w
-  plain-set = simp length-set (take-set-lt _ buffer a w lt)
+  pub plain_set : plain_words (slice_set buffer a w) ≡ slice_set (plain_words buffer) a w
+  plain_set = simp length-set (take-set-lt _ buffer a w lt)
 
-  pub plain-beyond-set : plain_beyond (slice_set buffer a w) ≡ plain_beyond buffer
-  plain-beyond-set = simp length-set (ap (λ l. l ∷ []) (drop-set-lt _ buffer a w lt))
+  pub plain_beyond_set : plain_beyond (slice_set buffer a w) ≡ plain_beyond buffer
+  plain_beyond_set = simp length-set (ap (λ l. l ∷ []) (drop-set-lt _ buffer a w lt))

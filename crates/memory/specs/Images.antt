@@ -62,8 +62,8 @@ module _ (bytes : List ℕ) (a w : ℕ) (lt : a < 8 * whole_blocks (length bytes
   room : 8 * a + 8 ≤ length bytes
   room = omega arith
 
-  pub image-length-kept : length after ≡ length bytes
-  image-length-kept = ap length is ∙ length-overwritten bytes (8 * a) (word_bytes w) room
+  pub image_length-kept : length after ≡ length bytes
+  image_length-kept = ap length is ∙ length-overwritten bytes (8 * a) (word_bytes w) room
 
   written : big_endian_word after (8 * a) ≡ w
   written =
@@ -79,9 +79,9 @@ module _ (bytes : List ℕ) (a w : ℕ) (lt : a < 8 * whole_blocks (length bytes
       (λ above. get_or-overwritten-behind bytes (8 * a) (word_bytes w) room (8 * k + j) (omega (arith, ne)))
       (cases_lt k a))
 
-  pub image-set : image_words after ≡ slice_set (image_words bytes) a w
-  image-set =
-      let same : 8 * whole_blocks (length after) 64 ≡ 8 * whole_blocks (length bytes) 64 = ap (λ n. 8 * whole_blocks n 64) image-length-kept in
+  pub image_set : image_words after ≡ slice_set (image_words bytes) a w
+  image_set =
+      let same : 8 * whole_blocks (length after) 64 ≡ 8 * whole_blocks (length bytes) 64 = ap (λ n. 8 * whole_blocks n 64) image_length-kept in
       ext_get_or 0 _ _ (length-image after ∙ same ∙ sym (length-image bytes) ∙ sym (length-set (image_words bytes) a w))
       (λ k h.
       let inside : k < 8 * whole_blocks (length bytes) 64 = omega (arith, length-image after, same) in
@@ -90,9 +90,9 @@ module _ (bytes : List ℕ) (a w : ℕ) (lt : a < 8 * whole_blocks (length bytes
       (λ ne. other k ne ∙ sym (get_or-set_other (image_words bytes) a k w 0 ne ∙ get_or-image bytes k inside))
       (cases_eq k a))
 
-  pub image-beyond-set : image_beyond after ≡ image_beyond bytes
-  image-beyond-set =
-      ap (λ n. drop (64 * whole_blocks n 64) after ∷ []) image-length-kept
+  pub image_beyond_set : image_beyond after ≡ image_beyond bytes
+  image_beyond_set =
+      ap (λ n. drop (64 * whole_blocks n 64) after ∷ []) image_length-kept
       ∙ ap (λ l. drop (64 * whole_blocks (length bytes) 64) l ∷ []) is
       ∙ ap (λ l. l ∷ []) (drop-overwritten bytes (8 * a) (word_bytes w) room _ (omega arith))
 

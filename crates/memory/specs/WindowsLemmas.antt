@@ -5,15 +5,15 @@ use Rattle.std.proofs.Math.Seq.{take-set-lt}
 use Rattle.std.proofs.lemmas.List.{length-take-le, length-drop, length-set, get_or-take, get_or-drop, take-set-le, drop-set-lt, drop-set-add, drop-drop, take-append-drop}
 use Rattle.memory.specs.Words.{Whole, read_answer, write_answer}
 use Rattle.memory.specs.Windows.{start_of, blocks_of, window_words, window_beyond}
-use Rattle.memory.specs.Answered.{read-within, write-within}
+use Rattle.memory.specs.Answered.{read_within, write_within}
 use Rattle.memory.specs.Fronts.{whole_from}
 
 module _ (ws : List ℕ) (whole : Whole ws) (first count : ℕ) where
   pub length-window : length (window_words ws first count) ≡ 8 * blocks_of ws first count
   length-window = length-take-le (8 * blocks_of ws first count) (drop (8 * start_of ws first) ws) (simp length-drop (omega arith))
 
-  pub whole-window : Whole (window_words ws first count)
-  whole-window = whole_from (window_words ws first count) (blocks_of ws first count) length-window (omega arith)
+  pub whole_window : Whole (window_words ws first count)
+  whole_window = whole_from (window_words ws first count) (blocks_of ws first count) length-window (omega arith)
 
   -- an address of the window, and the one below that it stands for
   module _ (a : ℕ) (lt : a < 8 * blocks_of ws first count) (at : ℕ) (is : at ≡ 8 * start_of ws first + a) where
@@ -22,14 +22,14 @@ module _ (ws : List ℕ) (whole : Whole ws) (first count : ℕ) where
 
     pub window-read : read_answer ws at ≡ read_answer (window_words ws first count) a
     window-read =
-        sym (read-within ws at _ within refl)
-        ∙ read-within (window_words ws first count) a _ (omega (arith, length-window))
+        sym (read_within ws at _ within refl)
+        ∙ read_within (window_words ws first count) a _ (omega (arith, length-window))
         (ap (λ i. slice_index ws i) is
         ∙ sym (get_or-drop (8 * start_of ws first) ws a 0)
         ∙ sym (get_or-take (8 * blocks_of ws first count) (drop (8 * start_of ws first) ws) a 0 lt))
 
     pub window-write : write_answer ws at ≡ write_answer (window_words ws first count) a
-    window-write = sym (write-within ws at within) ∙ write-within (window_words ws first count) a (omega (arith, length-window))
+    window-write = sym (write_within ws at within) ∙ write_within (window_words ws first count) a (omega (arith, length-window))
 
     module _ (w : ℕ) (after : List ℕ) (set_below : after ≡ slice_set ws at w) where
       written : after ≡ slice_set ws (8 * start_of ws first + a) w

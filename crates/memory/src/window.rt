@@ -2,7 +2,7 @@
 ghost use Rattle.std.specs.Prelude.{◌≡◌, ◌≤◌, ◌++◌};
 ghost use Rattle.memory.specs.Words.{Whole};
 ghost use Rattle.memory.specs.Windows.{start_of, window_words, window_beyond};
-ghost use Rattle.memory.specs.WindowsLemmas.{whole-window};
+ghost use Rattle.memory.specs.WindowsLemmas.{whole_window};
 
 use super::Memory;
 use fault::Fault;
@@ -56,7 +56,7 @@ impl<M: Memory> Memory for Window<M> {
 
     ghost beyond = { λ m. window_beyond (M.Memory.words m.below) m.first m.count ++ M.Memory.beyond m.below };
 
-    ghost whole = { λ m. whole-window (M.Memory.words m.below) (M.Memory.whole m.below) m.first m.count };
+    ghost whole = { λ m. whole_window (M.Memory.words m.below) (M.Memory.whole m.below) m.first m.count };
 
     fn size(&self) -> u64 {
         let remaining = self.below.size() - self.start();

@@ -56,13 +56,13 @@ before-le sep s = omega (arith, sym (ap length (take-before sep s)) ∙ length-t
 
 -- a search for the separator, at place i
 module _ (sep : ℕ) (s : List ℕ) (i : ℕ) (inside : i < length s) where
-  pub search-hit : get_or s i 0 ≡ sep → i + length (before sep (drop i s)) ≡ length (before sep s) → i ≡ length (before sep s)
-  search-hit e inv =
+  pub search_hit : get_or s i 0 ≡ sep → i + length (before sep (drop i s)) ≡ length (before sep s) → i ≡ length (before sep s)
+  search_hit e inv =
       let stop : length (before sep (drop i s)) ≡ 0 = at_drop_more (λ t. length (before sep t)) s i 0 inside ∙ ap length (before-hit sep _ _ e) in
       omega arith
 
-  pub search-miss : (get_or s i 0 ≡ sep → ⊥) → i + length (before sep (drop i s)) ≡ length (before sep s) → i + 1 + length (before sep (drop (i + 1) s)) ≡ length (before sep s)
-  search-miss n inv =
+  pub search_miss : (get_or s i 0 ≡ sep → ⊥) → i + length (before sep (drop i s)) ≡ length (before sep s) → i + 1 + length (before sep (drop (i + 1) s)) ≡ length (before sep s)
+  search_miss n inv =
       let go : length (before sep (drop i s)) ≡ suc (length (before sep (drop (i + 1) s))) = at_drop_more (λ t. length (before sep t)) s i 0 inside ∙ ap length (before-miss sep _ _ n) in
       omega arith
 
@@ -97,29 +97,29 @@ pub record Split (sep : ℕ) (s a b : List ℕ) : Type 0 where
   pub rest : b ≡ behind sep s
 
 module _ (sep : ℕ) (s : List ℕ) (k : ℕ) (place : k ≡ length (before sep s)) where
-  pub split-inside : Split sep s (take (k - 0) s) (take (length s - (k + 1)) (drop (k + 1) s))
-  split-inside =
+  pub split_inside : Split sep s (take (k - 0) s) (take (length s - (k + 1)) (drop (k + 1) s))
+  split_inside =
       let same : k - 0 ≡ length (before sep s) = omega arith in
       record {
         first = ap (λ n. take n s) same ∙ take-before sep s;
         rest = take_rest s (k + 1) ∙ (ap (λ n. drop (n + 1) s) place ∙ drop-behind sep s);
       }
 
-  pub split-end : length s ≤ k → Split sep s s (take (length s - k) (drop k s))
-  split-end end =
+  pub split_end : length s ≤ k → Split sep s s (take (length s - k) (drop k s))
+  split_end end =
       record {
         first = sym (take_all (length (before sep s)) s (omega arith)) ∙ take-before sep s;
         rest = take_rest s k ∙ (drop_all k s end ∙ (sym (drop_all (length (before sep s) + 1) s (omega arith)) ∙ drop-behind sep s));
       }
 
 module _ (sep : ℕ) (s a b : List ℕ) (split : Split sep s a b) (some : 0 < length s) where
-  pub split-shorter : length b < length s
-  split-shorter =
+  pub split_shorter : length b < length s
+  split_shorter =
       let l : length b ≡ length s - (length (before sep s) + 1) = ap length (split.rest ∙ sym (drop-behind sep s)) ∙ length-drop _ s in
       omega arith
 
-  pub split-pieces : cut sep [] s ≡ a ∷ cut sep [] b
-  split-pieces = cut-first sep s some ∙ (ap (λ p. p ∷ cut sep [] (behind sep s)) (sym split.first) ∙ ap (λ t. a ∷ cut sep [] t) (sym split.rest))
+  pub split_pieces : cut sep [] s ≡ a ∷ cut sep [] b
+  split_pieces = cut-first sep s some ∙ (ap (λ p. p ∷ cut sep [] (behind sep s)) (sym split.first) ∙ ap (λ t. a ∷ cut sep [] t) (sym split.rest))
 
 -- the pieces hold no separator
 apart-on_first : (sep c : ℕ) (ps : List (List ℕ)) → (c ≡ sep → ⊥) → Apart sep ps → Apart sep (on_first c ps)
@@ -241,11 +241,11 @@ fields_head s =
 
 -- the count of fields, a byte on
 module _ (s : List ℕ) (i : ℕ) (inside : i < length s) where
-  pub count-hit : get_or s i 0 ≡ 32 → length (fields_of (drop i s)) ≡ suc (length (fields_of (drop (i + 1) s)))
-  count-hit e = at_drop_more (λ t. length (fields_of t)) s i 0 inside ∙ ap length (cut-hit 32 _ (drop (i + 1) s) ([] ∷ []) e)
+  pub count_hit : get_or s i 0 ≡ 32 → length (fields_of (drop i s)) ≡ suc (length (fields_of (drop (i + 1) s)))
+  count_hit e = at_drop_more (λ t. length (fields_of t)) s i 0 inside ∙ ap length (cut-hit 32 _ (drop (i + 1) s) ([] ∷ []) e)
 
-  pub count-miss : (get_or s i 0 ≡ 32 → ⊥) → length (fields_of (drop i s)) ≡ length (fields_of (drop (i + 1) s))
-  count-miss n =
+  pub count_miss : (get_or s i 0 ≡ 32 → ⊥) → length (fields_of (drop i s)) ≡ length (fields_of (drop (i + 1) s))
+  count_miss n =
       at_drop_more (λ t. length (fields_of t)) s i 0 inside
       ∙ (ap length (cut-miss 32 _ (drop (i + 1) s) ([] ∷ []) n) ∙ length-on_first _ (fields_of (drop (i + 1) s)) (fields_some (drop (i + 1) s)))
 
@@ -265,8 +265,8 @@ module _ (line : List ℕ) (at : ℕ) (rest : List ℕ) (p : Passed line at rest
   pub passed_length : length (fields_of line) ≡ at - 1 + length (fields_of rest)
   passed_length = omega (arith, ap length p.others, length-drop (at - 1) (fields_of line), fields_some rest)
 
-  pub passed-more : (behind' : List ℕ) → length (before 32 rest) < length rest → behind' ≡ behind 32 rest → Passed line (at + 1) behind'
-  passed-more behind' h e =
+  pub passed_more : (behind' : List ℕ) → length (before 32 rest) < length rest → behind' ≡ behind 32 rest → Passed line (at + 1) behind'
+  passed_more behind' h e =
       let one : at + 1 - 1 ≡ at - 1 + 1 = omega (arith, p.some) in
       record {
         some = omega arith;
@@ -276,9 +276,9 @@ module _ (line : List ℕ) (at : ℕ) (rest : List ℕ) (p : Passed line at rest
       }
 
   -- the line ends with the field at `at`
-  pub passed-last : length rest ≤ length (before 32 rest) → length (fields_of line) ≡ at
-  passed-last h = omega (arith, passed_length, ap length (fields_last rest h), p.some)
+  pub passed_last : length rest ≤ length (before 32 rest) → length (fields_of line) ≡ at
+  passed_last h = omega (arith, passed_length, ap length (fields_last rest h), p.some)
 
-  pub passed-field : (field : List ℕ) → field ≡ before 32 rest → field ≡ get_or (fields_of line) (at - 1) []
-  passed-field field e =
+  pub passed_field : (field : List ℕ) → field ≡ before 32 rest → field ≡ get_or (fields_of line) (at - 1) []
+  passed_field field e =
       e ∙ (sym (fields_head rest) ∙ (ap (λ fs. get_or fs 0 []) (sym p.others) ∙ (get_or-drop (at - 1) (fields_of line) 0 [] ∙ ap (λ k. get_or (fields_of line) k []) (add-zero (at - 1)))))

@@ -79,12 +79,12 @@ Summed f i sum = (all_ascii_digits (drop i f) ≡ all_ascii_digits f) × (read_o
 
 -- one digit more is read: the rest of the field decides, and makes the same number behind it
 module _ (f : List ℕ) (i : ℕ) (inside : i < length f) where
-  next-digits : is_ascii_digit (get_or f i 0) ≡ true → all_ascii_digits (drop i f) ≡ all_ascii_digits (drop (i + 1) f)
-  next-digits d = let e : all_ascii_digits (drop i f) ≡ (is_ascii_digit (get_or f i 0) && all_ascii_digits (drop (i + 1) f)) = at_drop_more all_ascii_digits f i 0 inside in e ∙ ap (λ b. b && all_ascii_digits (drop (i + 1) f)) d
+  next_digits : is_ascii_digit (get_or f i 0) ≡ true → all_ascii_digits (drop i f) ≡ all_ascii_digits (drop (i + 1) f)
+  next_digits d = let e : all_ascii_digits (drop i f) ≡ (is_ascii_digit (get_or f i 0) && all_ascii_digits (drop (i + 1) f)) = at_drop_more all_ascii_digits f i 0 inside in e ∙ ap (λ b. b && all_ascii_digits (drop (i + 1) f)) d
 
-  next-sum : (sum : ℕ) → read_on sum (drop i f) ≡ read_on (sum * 10 + (get_or f i 0 - 48)) (drop (i + 1) f)
+  next_sum : (sum : ℕ) → read_on sum (drop i f) ≡ read_on (sum * 10 + (get_or f i 0 - 48)) (drop (i + 1) f)
   unfolding read_on
-  next-sum sum = at_drop_more (read_on sum) f i 0 inside
+  next_sum sum = at_drop_more (read_on sum) f i 0 inside
 
   pushed-parts : (sum m : ℕ) → Some m ≡ pushed sum (get_or f i 0) → (is_ascii_digit (get_or f i 0) ≡ true) × (m ≡ sum * 10 + (get_or f i 0 - 48)) × (m < 2 ^ 64)
   pushed-parts sum m e = grind (arith, nat_tests)
@@ -92,12 +92,12 @@ module _ (f : List ℕ) (i : ℕ) (inside : i < length f) where
   pub digits_step : (sum m : ℕ) → Some m ≡ pushed sum (get_or f i 0) → Summed f i sum → Summed f (i + 1) m
   digits_step sum m e inv =
       let p = pushed-parts sum m e in
-      (sym (next-digits p.0) ∙ inv.0, ap (λ n. read_on n (drop (i + 1) f)) p.1 ∙ (sym (next-sum sum) ∙ inv.1), p.2)
+      (sym (next_digits p.0) ∙ inv.0, ap (λ n. read_on n (drop (i + 1) f)) p.1 ∙ (sym (next_sum sum) ∙ inv.1), p.2)
 
-  pub digits-stop : (sum : ℕ) → None ≡ pushed sum (get_or f i 0) → Summed f i sum → number_in f ≡ None
-  digits-stop sum e inv =
+  pub digits_stop : (sum : ℕ) → None ≡ pushed sum (get_or f i 0) → Summed f i sum → number_in f ≡ None
+  digits_stop sum e inv =
       ⊎_elim
-      (λ d. none_large f (let large : 2 ^ 64 ≤ sum * 10 + (get_or f i 0 - 48) = grind (arith, nat_tests) in omega (arith, read_on-ge (sum * 10 + (get_or f i 0 - 48)) (drop (i + 1) f), next-sum sum, inv.1)))
+      (λ d. none_large f (let large : 2 ^ 64 ≤ sum * 10 + (get_or f i 0 - 48) = grind (arith, nat_tests) in omega (arith, read_on-ge (sum * 10 + (get_or f i 0 - 48)) (drop (i + 1) f), next_sum sum, inv.1)))
       (λ d. none_letter f (sym inv.0 ∙ (at_drop_more all_ascii_digits f i 0 inside ∙ and_left _ _ d)))
       (cases_Bool (is_ascii_digit (get_or f i 0)))
 

@@ -33,8 +33,8 @@ module _ (n rest at : ℕ) (out : List ℕ) (s : Spelt n rest at out) where
   pub spelt_back : 10 ≤ rest → 1 ≤ at
   spelt_back h = omega (arith, width_step rest h s.small, decimal_nonempty (rest / 10) (omega (arith, s.small)), s.width)
 
-  pub spelt-more : 10 ≤ rest → Spelt n (rest / 10) (at - 1) (set out at (48 + rest % 10))
-  spelt-more h =
+  pub spelt_more : 10 ≤ rest → Spelt n (rest / 10) (at - 1) (set out at (48 + rest % 10))
+  spelt_more h =
       let back : at - 1 + 1 ≡ at = omega (arith, spelt_back h) in
       record {
         small = omega (arith, s.small);
@@ -47,8 +47,8 @@ module _ (n rest at : ℕ) (out : List ℕ) (s : Spelt n rest at out) where
             ∙ (ap (λ zs. zs ++ drop (at + 1) out) (sym (decimal_step rest h s.small)) ∙ s.whole)));
       }
 
-  pub spelt-all : rest < 10 → set out at (48 + rest) ≡ decimal n
-  spelt-all h =
+  pub spelt_all : rest < 10 → set out at (48 + rest) ≡ decimal n
+  spelt_all h =
       let first : at ≡ 0 = omega (arith, width_one rest h, s.width) in
       let front : 0 < length out = omega (arith, s.inside) in
       ap (λ k. set out k (48 + rest)) first

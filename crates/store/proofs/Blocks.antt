@@ -120,16 +120,16 @@ way-store v n false false f e = rw e refl
 
 module _ (H : Holdings) (es : List (Event Access)) (sound : Sound H) (held : (t b : ℕ) → t < 16 → H t b ≡ holding_of (job_of es t) b) (t b : ℕ) (l : t < 16) (m : b < 64) where
   -- where t's holding suffices for a load, no other stored
-  clear-load : 1 ≤ H t b → (u : ℕ) → u < 16 → stored_by_other es t b u ≡ false
-  clear-load n u k = ⊎_elim (λ (is : u ≡ t). rw (eq-eqb u t is) refl) (λ (ne : u ≡ t → ⊥). go (not (eqb u t)) (stored_in (job_of es u) b) (λ y. let e : H t b ≡ 0 = sound.alone u t b k l m (λ is. ne (sym is)) (held u b k ∙ cond-true _ _ _ y) in omega arith)) (cases_eq u t)
+  clear_load : 1 ≤ H t b → (u : ℕ) → u < 16 → stored_by_other es t b u ≡ false
+  clear_load n u k = ⊎_elim (λ (is : u ≡ t). rw (eq-eqb u t is) refl) (λ (ne : u ≡ t → ⊥). go (not (eqb u t)) (stored_in (job_of es u) b) (λ y. let e : H t b ≡ 0 = sound.alone u t b k l m (λ is. ne (sym is)) (held u b k ∙ cond-true _ _ _ y) in omega arith)) (cases_eq u t)
     where
       go : (p q : Bool) → (q ≡ true → ⊥) → (p && q) ≡ false
       go true true f = absurd (f refl)
       go true false f = refl
       go false q f = refl
 
-  clear-store : 64 ≤ H t b → (u : ℕ) → u < 16 → touched_by_other es t b u ≡ false
-  clear-store n u k = ⊎_elim (λ (is : u ≡ t). rw (eq-eqb u t is) refl) (λ (ne : u ≡ t → ⊥). go (not (eqb u t)) (touched (job_of es u) b) (apart H (job_of es) sound held t u b l k m ne (all_held (stored_in (job_of es t) b) (touched (job_of es t) b) (held t b l)))) (cases_eq u t)
+  clear_store : 64 ≤ H t b → (u : ℕ) → u < 16 → touched_by_other es t b u ≡ false
+  clear_store n u k = ⊎_elim (λ (is : u ≡ t). rw (eq-eqb u t is) refl) (λ (ne : u ≡ t → ⊥). go (not (eqb u t)) (touched (job_of es u) b) (apart H (job_of es) sound held t u b l k m ne (all_held (stored_in (job_of es t) b) (touched (job_of es t) b) (held t b l)))) (cases_eq u t)
     where
       go : (p q : Bool) → q ≡ false → (p && q) ≡ false
       go true q f = f
@@ -141,18 +141,18 @@ module _ (H : Holdings) (es : List (Event Access)) (sound : Sound H) (held : (t 
       all_held false false e = absurd (let bad : ⊥ = omega arith in bad)
 
   -- the book refuses exactly what the history refuses
-  pub load-conflict-same : take_answer Load H t b ≡ load_conflict_rule es t b
-  load-conflict-same = rw (lt-ltb t 16 l, lt-ltb b 64 m) (go (leb 1 (H t b)) refl)
+  pub load_conflict-same : take_answer Load H t b ≡ load_conflict_rule es t b
+  load_conflict-same = rw (lt-ltb t 16 l, lt-ltb b 64 m) (go (leb 1 (H t b)) refl)
     where
       go : (p : Bool) → leb 1 (H t b) ≡ p → cond p granted (unless_barred Load (lowest_in_the_way Load H t b)) ≡ load_conflict_rule es t b
-      go true e = sym (ap (unless_held LoadConflict) (lowest-only (stored_by_other es t b) 16 None (clear-load (leb-true 1 (H t b) e))))
+      go true e = sym (ap (unless_held LoadConflict) (lowest-only (stored_by_other es t b) 16 None (clear_load (leb-true 1 (H t b) e))))
       go false e = barred_load (lowest_in_the_way Load H t b) ∙ ap (unless_held LoadConflict) (first_same (is_in_the_way Load H t b) (stored_by_other es t b) 16 (λ u k. way-load (H u b) (not (eqb u t)) (stored_in (job_of es u) b) (touched (job_of es u) b) (held u b k)))
 
-  pub store-conflict-same : take_answer Store H t b ≡ store_conflict_rule es t b
-  store-conflict-same = rw (lt-ltb t 16 l, lt-ltb b 64 m) (go (leb 64 (H t b)) refl)
+  pub store_conflict-same : take_answer Store H t b ≡ store_conflict_rule es t b
+  store_conflict-same = rw (lt-ltb t 16 l, lt-ltb b 64 m) (go (leb 64 (H t b)) refl)
     where
       go : (p : Bool) → leb 64 (H t b) ≡ p → cond p granted (unless_barred Store (lowest_in_the_way Store H t b)) ≡ store_conflict_rule es t b
-      go true e = sym (ap (unless_held StoreConflict) (lowest-only (touched_by_other es t b) 16 None (clear-store (leb-true 64 (H t b) e))))
+      go true e = sym (ap (unless_held StoreConflict) (lowest-only (touched_by_other es t b) 16 None (clear_store (leb-true 64 (H t b) e))))
       go false e = barred_store (lowest_in_the_way Store H t b) ∙ ap (unless_held StoreConflict) (first_same (is_in_the_way Store H t b) (touched_by_other es t b) 16 (λ u k. way-store (H u b) (not (eqb u t)) (stored_in (job_of es u) b) (touched (job_of es u) b) (stored_touched (job_of es u) b) (held u b k)))
 
 unheld_none : (why : ℕ → Refusal) (o : Option ℕ) → unless_held why o ≡ allowed → o ≡ None

@@ -31,8 +31,8 @@ module _ (why : ℕ → Refusal) (told : (u : ℕ) → place_of (why u) ≡ u) (
   only (Some v) u low e = subst (λ k. Lowest test 16 (Some k)) (sym (told v) ∙ ap place_in e ∙ told u) low
   only None u low e = let z : ◌≡◌ {A = Bool} true false = ap is_ok e in let n : ◌≡◌ {A = ℕ} 0 1 = cc in absurd (let w : ⊥ = omega arith in w)
 
-  pub exactly-when : (r : Result Answer Fault) → r ≡ decided why x (first_below test 16) → ExactlyWhen why test r
-  exactly-when r e =
+  pub exactly_when : (r : Result Answer Fault) → r ≡ decided why x (first_below test 16) → ExactlyWhen why test r
+  exactly_when r e =
       record {
         only_when = λ u f. only (first_below test 16) u (lowest test 16) (sym e ∙ f);
         always = λ u low. e ∙ ap (decided why x) (lowest-only test 16 (Some u) low);
@@ -53,7 +53,7 @@ conflicts_at m es (Load t a) r right =
     λ opened inside.
     let w = get_or (alone (serial_words m es) (job_of es t)) a 0 in
     let rest = and_then (unless_held LoadConflict (first_below (stored_by_other es t (block_of a)) 16)) (Ok w) in
-    exactly-when LoadConflict (λ u. refl) (Word w) (stored_by_other es t (block_of a)) r
+    exactly_when LoadConflict (λ u. refl) (Word w) (stored_by_other es t (block_of a)) r
     (right
     ∙ ap (λ (v : Verdict). word_of (and_then v (and_then (address_rule m a) rest))) opened
     ∙ ap (λ (v : Verdict). word_of (and_then v rest)) inside
@@ -61,7 +61,7 @@ conflicts_at m es (Load t a) r right =
 conflicts_at m es (Store t a w) r right =
     λ opened inside room.
     let rest = unless_held StoreConflict (first_below (touched_by_other es t (block_of a)) 16) in
-    exactly-when StoreConflict (λ u. refl) Done (touched_by_other es t (block_of a)) r
+    exactly_when StoreConflict (λ u. refl) Done (touched_by_other es t (block_of a)) r
     (right
     ∙ ap (λ (v : Verdict). done_of (and_then v (and_then (address_rule m a) (and_then (room_rule es t a) rest)))) opened
     ∙ ap (λ (v : Verdict). done_of (and_then v (and_then (room_rule es t a) rest))) inside

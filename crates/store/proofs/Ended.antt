@@ -15,7 +15,7 @@ use Rattle.store.specs.declared.Answer.{Answer}
 use Rattle.store.specs.declared.Answer.TheVariants.{Done, Word, Ended}
 use Rattle.store.proofs.Alone.{some_is}
 use Rattle.store.proofs.Blocks.{block_below, apart, stored_block, stored_touched, unstored_block, no_holding, figure_same}
-use Rattle.store.proofs.Jobs.{open-ends-same, open-ends-other, by-ends, forget_job}
+use Rattle.store.proofs.Jobs.{open_ends_same, open_ends_other, by_ends, forget_job}
 use Rattle.store.proofs.Judged.{entry_same, entry_other}
 use Rattle.store.proofs.Loads.{agrees_none, agrees_same}
 use Rattle.store.proofs.Undo.{records_none, records_same}
@@ -36,12 +36,12 @@ module _ (m : List ℕ) (h : History) (s : State) (reached : Reached m h s) (t :
     pub ended-open : (u : ℕ) → u < 16 → (entry_at (set s.table t idle) u).is_open ≡ is_some (open_job (ends t c ∷ events h) u)
     ended-open u k =
         ⊎_elim
-        (λ (is : t ≡ u). subst (λ v. (entry_at (set s.table t idle) v).is_open ≡ is_some (open_job (ends t c ∷ events h) v)) is (ap (λ v. v.is_open) (entry_same s.table t idle reached.threads l) ∙ sym (ap is_some (open-ends-same (events h) t c))))
-        (λ (ne : t ≡ u → ⊥). ap (λ v. v.is_open) (entry_other s.table t idle u ne) ∙ reached.open? u k ∙ sym (ap is_some (open-ends-other (events h) t c u ne)))
+        (λ (is : t ≡ u). subst (λ v. (entry_at (set s.table t idle) v).is_open ≡ is_some (open_job (ends t c ∷ events h) v)) is (ap (λ v. v.is_open) (entry_same s.table t idle reached.threads l) ∙ sym (ap is_some (open_ends_same (events h) t c))))
+        (λ (ne : t ≡ u → ⊥). ap (λ v. v.is_open) (entry_other s.table t idle u ne) ∙ reached.open? u k ∙ sym (ap is_some (open_ends_other (events h) t c u ne)))
         (cases_eq t u)
 
     pub ended-above : (u : ℕ) → 16 ≤ u → open_job (ends t c ∷ events h) u ≡ None
-    ended-above u k = open-ends-other (events h) t c u (λ is. let bad : ⊥ = omega arith in bad) ∙ reached.above u k
+    ended-above u k = open_ends_other (events h) t c u (λ is. let bad : ⊥ = omega arith in bad) ∙ reached.above u k
 
     released-own : (b : ℕ) → after_release s.holds t t b ≡ 0
     released-own b = rw (lt-ltb t 16 l, eq-eqb t t refl)
@@ -51,7 +51,7 @@ module _ (m : List ℕ) (h : History) (s : State) (reached : Reached m h s) (t :
 
     pub ended_held : (u b : ℕ) → u < 16 → after_release s.holds t u b ≡ holding_of (job_of (ends t c ∷ events h) u) b
     ended_held u b =
-        by-ends (events h) t (λ u j. u < 16 → after_release s.holds t u b ≡ holding_of j b) c
+        by_ends (events h) t (λ u j. u < 16 → after_release s.holds t u b ≡ holding_of j b) c
         (λ _. released-own b ∙ no_holding b)
         (λ u ne k. released-other u b ne ∙ reached.held u b k)
         u
@@ -60,7 +60,7 @@ module _ (m : List ℕ) (h : History) (s : State) (reached : Reached m h s) (t :
     module _ (vs : List ℕ) (size : length (serial_words m (events h)) ≡ length vs) (same : (u : ℕ) → u < 16 → (t ≡ u → ⊥) → (a : ℕ) → touched (job_of (events h) u) (block_of a) ≡ true → get_or (serial_words m (events h)) a 0 ≡ get_or vs a 0) where
       pub ended-logged : (u : ℕ) → u < 16 → (entry_at (set s.table t idle) u).undo ≡ map (record_of vs) (stored_addresses (job_of (ends t c ∷ events h) u))
       ended-logged =
-          by-ends (events h) t (λ u j. u < 16 → (entry_at (set s.table t idle) u).undo ≡ map (record_of vs) (stored_addresses j)) c
+          by_ends (events h) t (λ u j. u < 16 → (entry_at (set s.table t idle) u).undo ≡ map (record_of vs) (stored_addresses j)) c
           (λ _. ap (λ v. v.undo) (entry_same s.table t idle reached.threads l) ∙ records_none vs)
           (λ u ne k.
           ap (λ v. v.undo) (entry_other s.table t idle u ne)
@@ -70,7 +70,7 @@ module _ (m : List ℕ) (h : History) (s : State) (reached : Reached m h s) (t :
 
       pub ended-loads : (u : ℕ) → u < 16 → Agrees vs (job_of (ends t c ∷ sightings h) u)
       ended-loads =
-          by-ends (sightings h) t (λ u j. u < 16 → Agrees vs j) c
+          by_ends (sightings h) t (λ u j. u < 16 → Agrees vs j) c
           (λ _. agrees_none vs)
           (λ u ne k.
           agrees_same (serial_words m (events h)) vs (job_of (sightings h) u) size

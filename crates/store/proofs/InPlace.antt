@@ -9,8 +9,8 @@ use Rattle.store.proofs.Blocks.{unstored_block}
 
 module _ (m : List ℕ) (h : History) (s : State) (reached : Reached m h s) (t a : ℕ) (inside : a < length m) (others : (u : ℕ) → u < 16 → (u ≡ t → ⊥) → stored_in (job_of (events h) u) (block_of a) ≡ false) where
   -- where t did not store either, the serial word
-  pub serial-there : latest_store (job_of (events h) t) a ≡ None → get_or s.words a 0 ≡ get_or (serial_words m (events h)) a 0
-  serial-there e =
+  pub serial_there : latest_store (job_of (events h) t) a ≡ None → get_or s.words a 0 ≡ get_or (serial_words m (events h)) a 0
+  serial_there e =
       reached.serial a inside
       (λ u l.
       ⊎_elim
@@ -24,4 +24,4 @@ module _ (m : List ℕ) (h : History) (s : State) (reached : Reached m h s) (t a
     where
       go : (o : Option ℕ) → latest_store (job_of (events h) t) a ≡ o → get_or s.words a 0 ≡ get_or (alone (serial_words m (events h)) (job_of (events h) t)) a 0
       go (Some w) e = reached.stored t a w l inside e ∙ sym (alone-stored (serial_words m (events h)) (job_of (events h) t) a w (omega (arith, length-serial m (events h))) e)
-      go None e = serial-there e ∙ sym (alone-unstored (serial_words m (events h)) (job_of (events h) t) a e)
+      go None e = serial_there e ∙ sym (alone-unstored (serial_words m (events h)) (job_of (events h) t) a e)

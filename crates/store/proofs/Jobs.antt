@@ -5,29 +5,29 @@ use Rattle.std.proofs.lemmas.Bool.{cases_eq, eq-eqb, ne_eqb, both_ways}
 use Rattle.store.specs.Histories.{History, Event, opens, accesses, ends, nothing, Access, Seen, event_of, events, stepped, open_job, job_of, seen_with, word_in, sightings}
 
 module _ {X : Type 0} (es : List (Event X)) (t : ℕ) where
-  pub open-opens-same : open_job (opens t ∷ es) t ≡ Some []
+  pub open_opens_same : open_job (opens t ∷ es) t ≡ Some []
   unfolding open_job
-  open-opens-same = rw (eq-eqb t t refl)
+  open_opens_same = rw (eq-eqb t t refl)
 
-  pub open-opens-other : (u : ℕ) → (t ≡ u → ⊥) → open_job (opens t ∷ es) u ≡ open_job es u
+  pub open_opens_other : (u : ℕ) → (t ≡ u → ⊥) → open_job (opens t ∷ es) u ≡ open_job es u
   unfolding open_job
-  open-opens-other u ne = rw (ne_eqb t u ne)
+  open_opens_other u ne = rw (ne_eqb t u ne)
 
-  pub open-accesses-same : (x : X) → open_job (accesses t x ∷ es) t ≡ option_map (λ xs. x ∷ xs) (open_job es t)
+  pub open_accesses_same : (x : X) → open_job (accesses t x ∷ es) t ≡ option_map (λ xs. x ∷ xs) (open_job es t)
   unfolding open_job
-  open-accesses-same x = rw (eq-eqb t t refl)
+  open_accesses_same x = rw (eq-eqb t t refl)
 
-  pub open-accesses-other : (x : X) (u : ℕ) → (t ≡ u → ⊥) → open_job (accesses t x ∷ es) u ≡ open_job es u
+  pub open_accesses_other : (x : X) (u : ℕ) → (t ≡ u → ⊥) → open_job (accesses t x ∷ es) u ≡ open_job es u
   unfolding open_job
-  open-accesses-other x u ne = rw (ne_eqb t u ne)
+  open_accesses_other x u ne = rw (ne_eqb t u ne)
 
-  pub open-ends-same : (c : Bool) → open_job (ends t c ∷ es) t ≡ None
+  pub open_ends_same : (c : Bool) → open_job (ends t c ∷ es) t ≡ None
   unfolding open_job
-  open-ends-same c = rw (eq-eqb t t refl)
+  open_ends_same c = rw (eq-eqb t t refl)
 
-  pub open-ends-other : (c : Bool) (u : ℕ) → (t ≡ u → ⊥) → open_job (ends t c ∷ es) u ≡ open_job es u
+  pub open_ends_other : (c : Bool) (u : ℕ) → (t ≡ u → ⊥) → open_job (ends t c ∷ es) u ≡ open_job es u
   unfolding open_job
-  open-ends-other c u ne = rw (ne_eqb t u ne)
+  open_ends_other c u ne = rw (ne_eqb t u ne)
 
 some_mapped : {X Y : Type 0} (f : X → Y) (o : Option X) → is_some (option_map f o) ≡ is_some o
 some_mapped f (Some x) = refl
@@ -47,49 +47,49 @@ job_none es t e = value_none (open_job es t) e
 
 module _ {X : Type 0} (es : List (Event X)) (t : ℕ) where
   -- who opens a job has none open, so no thread's accesses change
-  pub job-opens : (u : ℕ) → is_some (open_job es t) ≡ false → job_of (opens t ∷ es) u ≡ job_of es u
-  job-opens u e =
+  pub job_opens : (u : ℕ) → is_some (open_job es t) ≡ false → job_of (opens t ∷ es) u ≡ job_of es u
+  job_opens u e =
       ⊎_elim
-      (λ (is : t ≡ u). subst (λ v. job_of (opens t ∷ es) v ≡ job_of es v) is (ap (λ o. unwrap_or o []) (open-opens-same es t) ∙ sym (job_none es t e)))
-      (λ (ne : t ≡ u → ⊥). ap (λ o. unwrap_or o []) (open-opens-other es t u ne))
+      (λ (is : t ≡ u). subst (λ v. job_of (opens t ∷ es) v ≡ job_of es v) is (ap (λ o. unwrap_or o []) (open_opens_same es t) ∙ sym (job_none es t e)))
+      (λ (ne : t ≡ u → ⊥). ap (λ o. unwrap_or o []) (open_opens_other es t u ne))
       (cases_eq t u)
 
-  pub job-accesses-same : (x : X) → is_some (open_job es t) ≡ true → job_of (accesses t x ∷ es) t ≡ x ∷ job_of es t
-  job-accesses-same x e = ap (λ o. unwrap_or o []) (open-accesses-same es t x) ∙ value_mapped x (open_job es t) e
+  pub job_accesses_same : (x : X) → is_some (open_job es t) ≡ true → job_of (accesses t x ∷ es) t ≡ x ∷ job_of es t
+  job_accesses_same x e = ap (λ o. unwrap_or o []) (open_accesses_same es t x) ∙ value_mapped x (open_job es t) e
 
-  pub job-accesses-other : (x : X) (u : ℕ) → (t ≡ u → ⊥) → job_of (accesses t x ∷ es) u ≡ job_of es u
-  job-accesses-other x u ne = ap (λ o. unwrap_or o []) (open-accesses-other es t x u ne)
+  pub job_accesses_other : (x : X) (u : ℕ) → (t ≡ u → ⊥) → job_of (accesses t x ∷ es) u ≡ job_of es u
+  job_accesses_other x u ne = ap (λ o. unwrap_or o []) (open_accesses_other es t x u ne)
 
-  pub job-ends-same : (c : Bool) → job_of (ends t c ∷ es) t ≡ []
-  job-ends-same c = ap (λ o. unwrap_or o []) (open-ends-same es t c)
+  pub job_ends_same : (c : Bool) → job_of (ends t c ∷ es) t ≡ []
+  job_ends_same c = ap (λ o. unwrap_or o []) (open_ends_same es t c)
 
-  pub job-ends-other : (c : Bool) (u : ℕ) → (t ≡ u → ⊥) → job_of (ends t c ∷ es) u ≡ job_of es u
-  job-ends-other c u ne = ap (λ o. unwrap_or o []) (open-ends-other es t c u ne)
+  pub job_ends_other : (c : Bool) (u : ℕ) → (t ≡ u → ⊥) → job_of (ends t c ∷ es) u ≡ job_of es u
+  job_ends_other c u ne = ap (λ o. unwrap_or o []) (open_ends_other es t c u ne)
 
   -- what holds of every thread's accesses, shown by the thread that the event is about and by the others
-  pub by-opens : (P : ℕ → List X → Type 0) → is_some (open_job es t) ≡ false → ((u : ℕ) → P u (job_of es u)) → (u : ℕ) → P u (job_of (opens t ∷ es) u)
-  by-opens P e all u = subst (P u) (sym (job-opens u e)) (all u)
+  pub by_opens : (P : ℕ → List X → Type 0) → is_some (open_job es t) ≡ false → ((u : ℕ) → P u (job_of es u)) → (u : ℕ) → P u (job_of (opens t ∷ es) u)
+  by_opens P e all u = subst (P u) (sym (job_opens u e)) (all u)
 
-  pub by-accesses : (P : ℕ → List X → Type 0) (x : X) → is_some (open_job es t) ≡ true → P t (x ∷ job_of es t) → ((u : ℕ) → (t ≡ u → ⊥) → P u (job_of es u)) → (u : ℕ) → P u (job_of (accesses t x ∷ es) u)
-  by-accesses P x e own other u =
+  pub by_accesses : (P : ℕ → List X → Type 0) (x : X) → is_some (open_job es t) ≡ true → P t (x ∷ job_of es t) → ((u : ℕ) → (t ≡ u → ⊥) → P u (job_of es u)) → (u : ℕ) → P u (job_of (accesses t x ∷ es) u)
+  by_accesses P x e own other u =
       ⊎_elim
-      (λ (is : t ≡ u). subst (λ v. P v (job_of (accesses t x ∷ es) v)) is (subst (P t) (sym (job-accesses-same x e)) own))
-      (λ (ne : t ≡ u → ⊥). subst (P u) (sym (job-accesses-other x u ne)) (other u ne))
+      (λ (is : t ≡ u). subst (λ v. P v (job_of (accesses t x ∷ es) v)) is (subst (P t) (sym (job_accesses_same x e)) own))
+      (λ (ne : t ≡ u → ⊥). subst (P u) (sym (job_accesses_other x u ne)) (other u ne))
       (cases_eq t u)
 
-  pub by-ends : (P : ℕ → List X → Type 0) (c : Bool) → P t [] → ((u : ℕ) → (t ≡ u → ⊥) → P u (job_of es u)) → (u : ℕ) → P u (job_of (ends t c ∷ es) u)
-  by-ends P c own other u =
+  pub by_ends : (P : ℕ → List X → Type 0) (c : Bool) → P t [] → ((u : ℕ) → (t ≡ u → ⊥) → P u (job_of es u)) → (u : ℕ) → P u (job_of (ends t c ∷ es) u)
+  by_ends P c own other u =
       ⊎_elim
-      (λ (is : t ≡ u). subst (λ v. P v (job_of (ends t c ∷ es) v)) is (subst (P t) (sym (job-ends-same c)) own))
-      (λ (ne : t ≡ u → ⊥). subst (P u) (sym (job-ends-other c u ne)) (other u ne))
+      (λ (is : t ≡ u). subst (λ v. P v (job_of (ends t c ∷ es) v)) is (subst (P t) (sym (job_ends_same c)) own))
+      (λ (ne : t ≡ u → ⊥). subst (P u) (sym (job_ends_other c u ne)) (other u ne))
       (cases_eq t u)
 
   -- an access leaves open what is open
-  pub open-accesses : (x : X) (u : ℕ) → is_some (open_job (accesses t x ∷ es) u) ≡ is_some (open_job es u)
-  open-accesses x u =
+  pub open_accesses : (x : X) (u : ℕ) → is_some (open_job (accesses t x ∷ es) u) ≡ is_some (open_job es u)
+  open_accesses x u =
       ⊎_elim
-      (λ (is : t ≡ u). subst (λ v. is_some (open_job (accesses t x ∷ es) v) ≡ is_some (open_job es v)) is (ap is_some (open-accesses-same es t x) ∙ some_mapped (λ xs. x ∷ xs) (open_job es t)))
-      (λ (ne : t ≡ u → ⊥). ap is_some (open-accesses-other es t x u ne))
+      (λ (is : t ≡ u). subst (λ v. is_some (open_job (accesses t x ∷ es) v) ≡ is_some (open_job es v)) is (ap is_some (open_accesses_same es t x) ∙ some_mapped (λ xs. x ∷ xs) (open_job es t)))
+      (λ (ne : t ≡ u → ⊥). ap is_some (open_accesses_other es t x u ne))
       (cases_eq t u)
 
 forget_more : (x : Seen) (o : Option (List Seen)) → option_map (map (λ y. y.access)) (option_map (λ xs. x ∷ xs) o) ≡ option_map (λ xs. x.access ∷ xs) (option_map (map (λ y. y.access)) o)

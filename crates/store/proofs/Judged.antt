@@ -21,16 +21,16 @@ pub entry_other : (es : List View) (t : ℕ) (v : View) (u : ℕ) → (t ≡ u �
 entry_other es t v u ne = get_or-set_other es t u v idle (λ is. ne (sym is))
 
 module _ (m : List ℕ) (h : History) (s : State) (reached : Reached m h s) (t : ℕ) where
-  pub judge-begin : judge_of s.table t Begins ≡ begin_rule (events h) t
-  judge-begin = go (ltb t 16) refl
+  pub judge_begin : judge_of s.table t Begins ≡ begin_rule (events h) t
+  judge_begin = go (ltb t 16) refl
     where
       go : (q : Bool) → ltb t 16 ≡ q → cond q (judged t (entry_at s.table t) Begins) (refused (ThreadOutOfRange t)) ≡ cond q (cond (is_some (open_job (events h) t)) (refused (JobOpen t)) allowed) (refused (ThreadOutOfRange t))
       go true e = ap (λ p. cond p (refused (JobOpen t)) allowed) (reached.open? t (ltb-true t 16 e))
       go false e = refl
 
   -- the four other calls ask for an open job
-  pub judge-open : cond (ltb t 16) (cond (entry_at s.table t).is_open allowed (refused (NoJobOpen t))) (refused (ThreadOutOfRange t)) ≡ open_rule (events h) t
-  judge-open = go (ltb t 16) refl
+  pub judge_open : cond (ltb t 16) (cond (entry_at s.table t).is_open allowed (refused (NoJobOpen t))) (refused (ThreadOutOfRange t)) ≡ open_rule (events h) t
+  judge_open = go (ltb t 16) refl
     where
       go : (q : Bool) → ltb t 16 ≡ q → cond q (cond (entry_at s.table t).is_open allowed (refused (NoJobOpen t))) (refused (ThreadOutOfRange t)) ≡ cond q (cond (is_some (open_job (events h) t)) allowed (refused (NoJobOpen t))) (refused (ThreadOutOfRange t))
       go true e = ap (λ p. cond p allowed (refused (NoJobOpen t))) (reached.open? t (ltb-true t 16 e))
@@ -38,29 +38,29 @@ module _ (m : List ℕ) (h : History) (s : State) (reached : Reached m h s) (t :
 
 -- how the two rules can go
 pub data BeginWay (es : List (Event Access)) (t : ℕ) : Verdict → Type 0 where
-  begin-refused : (why : Fault) → BeginWay es t (Err why)
-  begin-allowed : t < 16 → is_some (open_job es t) ≡ false → BeginWay es t allowed
+  begin_refused : (why : Fault) → BeginWay es t (Err why)
+  begin_allowed : t < 16 → is_some (open_job es t) ≡ false → BeginWay es t allowed
 
 pub begin_way : (es : List (Event Access)) (t : ℕ) → BeginWay es t (begin_rule es t)
 begin_way es t = go (ltb t 16) (is_some (open_job es t)) refl refl
   where
     go : (p q : Bool) → ltb t 16 ≡ p → is_some (open_job es t) ≡ q → BeginWay es t (cond p (cond q (refused (JobOpen t)) allowed) (refused (ThreadOutOfRange t)))
-    go false q e f = begin-refused _
-    go true true e f = begin-refused _
-    go true false e f = begin-allowed (ltb-true t 16 e) f
+    go false q e f = begin_refused _
+    go true true e f = begin_refused _
+    go true false e f = begin_allowed (ltb-true t 16 e) f
 
 -- the rule of an open job, once the thread's number and its job are looked at
 abbrev pub open_by : ℕ → Bool → Bool → Verdict
 open_by t p q = cond p (cond q allowed (refused (NoJobOpen t))) (refused (ThreadOutOfRange t))
 
 pub data OpenWay (es : List (Event Access)) (t : ℕ) : Verdict → Type 0 where
-  open-refused : (why : Fault) → OpenWay es t (Err why)
-  open-allowed : t < 16 → is_some (open_job es t) ≡ true → OpenWay es t allowed
+  open_refused : (why : Fault) → OpenWay es t (Err why)
+  open_allowed : t < 16 → is_some (open_job es t) ≡ true → OpenWay es t allowed
 
 pub open_way : (es : List (Event Access)) (t : ℕ) → OpenWay es t (open_rule es t)
 open_way es t = go (ltb t 16) (is_some (open_job es t)) refl refl
   where
     go : (p q : Bool) → ltb t 16 ≡ p → is_some (open_job es t) ≡ q → OpenWay es t (open_by t p q)
-    go false q e f = open-refused _
-    go true false e f = open-refused _
-    go true true e f = open-allowed (ltb-true t 16 e) f
+    go false q e f = open_refused _
+    go true false e f = open_refused _
+    go true true e f = open_allowed (ltb-true t 16 e) f

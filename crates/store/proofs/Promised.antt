@@ -24,8 +24,8 @@ module _ (m : List ℕ) (h : History) (s : State) (reached : Reached m h s) wher
       (λ (l : 16 ≤ t). let f = job_none (events h) t (idle-above t l) in let g = latest_none a in cc)
       (cases_lt t 16)
 
-  serial-then : (a : ℕ) → a < length m → NoOtherWord m h a → get_or s.words a 0 ≡ get_or (serial_words m (events h)) a 0
-  serial-then a i same = go (first_below (λ t. is_some (latest_store (job_of (events h) t) a)) 16) refl
+  serial_then : (a : ℕ) → a < length m → NoOtherWord m h a → get_or s.words a 0 ≡ get_or (serial_words m (events h)) a 0
+  serial_then a i same = go (first_below (λ t. is_some (latest_store (job_of (events h) t) a)) 16) refl
     where
       go : (o : Option ℕ) → first_below (λ t. is_some (latest_store (job_of (events h) t) a)) 16 ≡ o → get_or s.words a 0 ≡ get_or (serial_words m (events h)) a 0
       go (Some t) e =
@@ -34,8 +34,8 @@ module _ (m : List ℕ) (h : History) (s : State) (reached : Reached m h s) wher
           reached.stored t a stored.0 found.0 i stored.1 ∙ same t stored.0 stored.1
       go None e = reached.serial a i (λ t l. none_is (latest_store (job_of (events h) t) a) (lowest-at (λ t. is_some (latest_store (job_of (events h) t) a)) 16 e t l))
 
-  open-loads : (t : ℕ) → Agrees (serial_words m (events h)) (job_of (sightings h) t)
-  open-loads t =
+  open_loads : (t : ℕ) → Agrees (serial_words m (events h)) (job_of (sightings h) t)
+  open_loads t =
       ⊎_elim
       (λ (l : t < 16). reached.open_loads t l)
       (λ (l : 16 ≤ t). subst (Agrees (serial_words m (events h))) (sym (job_none (sightings h) t (forget_some h t ∙ idle-above t l))) (agrees_none (serial_words m (events h))))
@@ -48,9 +48,9 @@ module _ (m : List ℕ) (h : History) (s : State) (reached : Reached m h s) wher
         conflicts = all_conflicts m h reached.answers;
         size = reached.size;
         only_then = λ a i is t w e. sym (in_place a t w i e) ∙ is;
-        then = serial-then;
+        then = serial_then;
         in_place = in_place;
         ended_loads = reached.ended_loads;
-        open_loads = open-loads;
+        open_loads = open_loads;
         held = reached.held;
       }

@@ -29,8 +29,8 @@ module _ {M B : Type 0} (words : M → List ℕ) (beyond : M → List (List ℕ)
     pub untouched : beyond store.memory ≡ beyond first.memory
     pub travelled : Travelled holding R first.book history store.book
 
-  pub sofar-none : (first : Store M B) (before : List Turn) → Reached (words first.memory) [] (state_of words holding first) → Sofar first before before 0 first
-  sofar-none first before reached =
+  pub sofar_none : (first : Store M B) (before : List Turn) → Reached (words first.memory) [] (state_of words holding first) → Sofar first before before 0 first
+  sofar_none first before reached =
       record { history = []; done = refl; rest = refl; calls = refl; reached = reached; untouched = refl; travelled = start }
 
   module _ (first : Store M B) (before now : List Turn) (i : ℕ) (d : Turn) (store store' : Store M B) (r : Result Answer Fault) (lt : i < length now) (same : length now ≡ length before) where
@@ -64,8 +64,8 @@ module _ {M B : Type 0} (words : M → List ℕ) (beyond : M → List (List ℕ)
           travelled = onward h made store.book store'.book far.travelled record { holds = far.reached.held; moved = moved };
         }
 
-  pub sofar-all : (memory : M) (book : B) (first : Store M B) (before now : List Turn) (i : ℕ) (store : Store M B) → first.memory ≡ memory → Releases R book 16 first.book → length now ≤ i → length now ≡ length before → Sofar first before now i store → Replayed words beyond holding R memory book before now store
-  sofar-all memory book first before now i store em released le same far =
+  pub sofar_all : (memory : M) (book : B) (first : Store M B) (before now : List Turn) (i : ℕ) (store : Store M B) → first.memory ≡ memory → Releases R book 16 first.book → length now ≤ i → length now ≡ length before → Sofar first before now i store → Replayed words beyond holding R memory book before now store
+  sofar_all memory book first before now i store em released le same far =
       let le' : length before ≤ i = omega arith in
       record {
         history = far.history;

@@ -16,17 +16,17 @@ use Rattle.store.specs.declared.Answer.{Answer}
 use Rattle.store.specs.declared.Answer.TheVariants.{Word}
 use Rattle.store.specs.declared.Call.TheVariants.{Load}
 use Rattle.store.proofs.Alone.{latest_load}
-use Rattle.store.proofs.Blocks.{block_below, load-conflict-same, nobody_stored, take-other, take-load}
+use Rattle.store.proofs.Blocks.{block_below, load_conflict-same, nobody_stored, take-other, take-load}
 use Rattle.store.proofs.InPlace.{own-there}
-use Rattle.store.proofs.Jobs.{open-accesses, open-accesses-other, job-accesses-same, job-accesses-other, by-accesses, forget_some, forget_job}
-use Rattle.store.proofs.Judged.{judge-open, open_by}
+use Rattle.store.proofs.Jobs.{open_accesses, open_accesses_other, job_accesses_same, job_accesses_other, by_accesses, forget_some, forget_job}
+use Rattle.store.proofs.Judged.{judge_open, open_by}
 use Rattle.store.proofs.Loads.{agrees_more}
 use Rattle.store.proofs.StepRefused.{step-refused}
 
 -- how the rule of a load can go
 data LoadWay (m : List ℕ) (es : List (Event Access)) (t a : ℕ) : Result ℕ Fault → Type 0 where
   load_refused : (why : Fault) → LoadWay m es t a (Err why)
-  load-allowed : t < 16 → is_some (open_job es t) ≡ true → a < length m → load_conflict_rule es t (block_of a) ≡ allowed → LoadWay m es t a (Ok (get_or (alone (serial_words m es) (job_of es t)) a 0))
+  load_allowed : t < 16 → is_some (open_job es t) ≡ true → a < length m → load_conflict_rule es t (block_of a) ≡ allowed → LoadWay m es t a (Ok (get_or (alone (serial_words m es) (job_of es t)) a 0))
 
 load_way : (m : List ℕ) (es : List (Event Access)) (t a : ℕ) → LoadWay m es t a (load_rule m es t a)
 load_way m es t a = go (ltb t 16) (is_some (open_job es t)) (ltb a (length m)) (load_conflict_rule es t (block_of a)) refl refl refl refl
@@ -36,16 +36,16 @@ load_way m es t a = go (ltb t 16) (is_some (open_job es t)) (ltb a (length m)) (
     go true false r v e₁ e₂ e₃ e₄ = load_refused _
     go true true false v e₁ e₂ e₃ e₄ = load_refused _
     go true true true (Err f) e₁ e₂ e₃ e₄ = load_refused _
-    go true true true (Ok x) e₁ e₂ e₃ e₄ = load-allowed (ltb-true t 16 e₁) e₂ (ltb-true a (length m) e₃) e₄
+    go true true true (Ok x) e₁ e₂ e₃ e₄ = load_allowed (ltb-true t 16 e₁) e₂ (ltb-true a (length m) e₃) e₄
 
 -- the store answers by the rule
 module _ (m : List ℕ) (h : History) (s : State) (sound : Sound s.holds) (whole : Whole s.words) (reached : Reached m h s) (t a : ℕ) where
   take_same : t < 16 → a < length m → load_take s.holds t (block_of a) ≡ load_conflict_rule (events h) t (block_of a)
-  take_same l k = load-conflict-same s.holds (events h) sound reached.held t (block_of a) l (block_below a (length m) k (omega (arith, reached.size)))
+  take_same l k = load_conflict-same s.holds (events h) sound reached.held t (block_of a) l (block_below a (length m) k (omega (arith, reached.size)))
 
   pub load_same : load_answer s t a ≡ load_rule m (events h) t a
   load_same =
-      ap (λ v. and_then (and_then v (and_then (read_answer s.words a) allowed)) (and_then (load_take s.holds t (block_of a)) (Ok (get_or s.words a 0)))) (judge-open m h s reached t)
+      ap (λ v. and_then (and_then v (and_then (read_answer s.words a) allowed)) (and_then (load_take s.holds t (block_of a)) (Ok (get_or s.words a 0)))) (judge_open m h s reached t)
       ∙ ap (λ n. and_then (and_then (open_rule (events h) t) (and_then (cond (ltb a n) (Ok (get_or s.words a 0)) (Err (address_fault a))) allowed)) (and_then (load_take s.holds t (block_of a)) (Ok (get_or s.words a 0)))) reached.size
       ∙ go (ltb t 16) (is_some (open_job (events h) t)) (ltb a (length m)) refl refl
     where
@@ -66,32 +66,32 @@ module _ (m : List ℕ) (h : History) (s : State) (sound : Sound s.holds) (whole
     loaded-logged : (u : ℕ) → u < 16 → (entry_at s.table u).undo ≡ map (record_of (serial_words m (events h))) (stored_addresses (job_of (accesses t (loads a) ∷ events h) u))
     unfolding stored_addresses
     loaded-logged =
-        by-accesses (events h) t (λ u j. u < 16 → (entry_at s.table u).undo ≡ map (record_of (serial_words m (events h))) (stored_addresses j)) (loads a) opened
+        by_accesses (events h) t (λ u j. u < 16 → (entry_at s.table u).undo ≡ map (record_of (serial_words m (events h))) (stored_addresses j)) (loads a) opened
         (reached.logged t)
         (λ u _. reached.logged u)
 
     loaded-held : (u b : ℕ) → u < 16 → after_load s.holds t (block_of a) u b ≡ holding_of (job_of (accesses t (loads a) ∷ events h) u) b
     loaded-held u b =
-        by-accesses (events h) t (λ u j. u < 16 → after_load s.holds t (block_of a) u b ≡ holding_of j b) (loads a) opened
+        by_accesses (events h) t (λ u j. u < 16 → after_load s.holds t (block_of a) u b ≡ holding_of j b) (loads a) opened
         (λ n. take-load s.holds (job_of (events h) t) t a b (λ c. reached.held t c n) (take_same l k ∙ clear))
         (λ u ne n. take-other LoadTake s.holds t (block_of a) u b (λ is. ne (sym is)) ∙ reached.held u b n)
         u
 
     loaded-stored : (u b v : ℕ) → u < 16 → b < length m → latest_store (job_of (accesses t (loads a) ∷ events h) u) b ≡ Some v → get_or s.words b 0 ≡ v
     loaded-stored u b v =
-        by-accesses (events h) t (λ u j. u < 16 → b < length m → latest_store j b ≡ Some v → get_or s.words b 0 ≡ v) (loads a) opened
+        by_accesses (events h) t (λ u j. u < 16 → b < length m → latest_store j b ≡ Some v → get_or s.words b 0 ≡ v) (loads a) opened
         (λ n i e. reached.stored t b v n i (sym (latest_load a (job_of (events h) t) b) ∙ e))
         (λ u _. reached.stored u b v)
         u
 
     loaded-serial : (b : ℕ) → b < length m → ((u : ℕ) → u < 16 → latest_store (job_of (accesses t (loads a) ∷ events h) u) b ≡ None) → get_or s.words b 0 ≡ get_or (serial_words m (events h)) b 0
     loaded-serial b i none =
-        let own : latest_store (loads a ∷ job_of (events h) t) b ≡ None = subst (λ j. latest_store j b ≡ None) (job-accesses-same (events h) t (loads a) opened) (none t l) in
+        let own : latest_store (loads a ∷ job_of (events h) t) b ≡ None = subst (λ j. latest_store j b ≡ None) (job_accesses_same (events h) t (loads a) opened) (none t l) in
         reached.serial b i
         (λ u n.
         ⊎_elim
         (λ (is : t ≡ u). subst (λ v. latest_store (job_of (events h) v) b ≡ None) is (sym (latest_load a (job_of (events h) t) b) ∙ own))
-        (λ (ne : t ≡ u → ⊥). subst (λ j. latest_store j b ≡ None) (job-accesses-other (events h) t (loads a) u ne) (none u n))
+        (λ (ne : t ≡ u → ⊥). subst (λ j. latest_store j b ≡ None) (job_accesses_other (events h) t (loads a) u ne) (none u n))
         (cases_eq t u))
 
     abbrev seen : Seen
@@ -99,7 +99,7 @@ module _ (m : List ℕ) (h : History) (s : State) (sound : Sound s.holds) (whole
 
     loaded-loads : (u : ℕ) → u < 16 → Agrees (serial_words m (events h)) (job_of (accesses t seen ∷ sightings h) u)
     loaded-loads =
-        by-accesses (sightings h) t (λ u j. u < 16 → Agrees (serial_words m (events h)) j) seen (forget_some h t ∙ opened)
+        by_accesses (sightings h) t (λ u j. u < 16 → Agrees (serial_words m (events h)) j) seen (forget_some h t ∙ opened)
         (λ n. agrees_more (serial_words m (events h)) seen (job_of (sightings h) t) (word ∙ ap (λ j. get_or (alone (serial_words m (events h)) j) a 0) (sym (forget_job h t))) (reached.open_loads t n))
         (λ u _. reached.open_loads u)
 
@@ -109,8 +109,8 @@ module _ (m : List ℕ) (h : History) (s : State) (sound : Sound s.holds) (whole
         record {
           size = reached.size;
           threads = reached.threads;
-          open? = λ u n. reached.open? u n ∙ sym (open-accesses (events h) t (loads a) u);
-          above = λ u n. open-accesses-other (events h) t (loads a) u (λ is. let bad : ⊥ = omega arith in bad) ∙ reached.above u n;
+          open? = λ u n. reached.open? u n ∙ sym (open_accesses (events h) t (loads a) u);
+          above = λ u n. open_accesses_other (events h) t (loads a) u (λ is. let bad : ⊥ = omega arith in bad) ∙ reached.above u n;
           logged = loaded-logged;
           held = loaded-held;
           stored = loaded-stored;
@@ -145,7 +145,7 @@ step-load m h s s' t a r sound whole answered after reached = go (load_way m (ev
         (sym (answered ∙ ap word_of (same ∙ e)))
         (sym (after ∙ refused-state s t a f (same ∙ e)))
         (step-refused m h s (Load t a) f (sym (ap word_of e)) reached)
-    go (load-allowed l opened k clear) e same =
+    go (load_allowed l opened k clear) e same =
         subst₂ (λ q z. Reached m (record { call = Load t a; answer = q } ∷ h) z)
         (sym (answered ∙ ap word_of (same ∙ e)))
         (sym (after ∙ granted-state s t a _ (same ∙ e)))

@@ -19,10 +19,10 @@ use Rattle.store.specs.declared.Answer.{Answer}
 use Rattle.store.specs.declared.Answer.TheVariants.{Done}
 use Rattle.store.specs.declared.Call.TheVariants.{Store}
 use Rattle.store.proofs.Alone.{latest_same, latest_other}
-use Rattle.store.proofs.Blocks.{block_below, stored_block, stored_touched, untouched-block, store-conflict-same, nobody_touched, take-other, take-store}
-use Rattle.store.proofs.InPlace.{serial-there}
-use Rattle.store.proofs.Jobs.{open-accesses, open-accesses-other, job-accesses-same, job-accesses-other, by-accesses, forget_some}
-use Rattle.store.proofs.Judged.{entry_same, entry_other, judge-open, open_by}
+use Rattle.store.proofs.Blocks.{block_below, stored_block, stored_touched, untouched-block, store_conflict-same, nobody_touched, take-other, take-store}
+use Rattle.store.proofs.InPlace.{serial_there}
+use Rattle.store.proofs.Jobs.{open_accesses, open_accesses_other, job_accesses_same, job_accesses_other, by_accesses, forget_some}
+use Rattle.store.proofs.Judged.{entry_same, entry_other, judge_open, open_by}
 use Rattle.store.proofs.Loads.{agrees_more}
 use Rattle.store.proofs.StepRefused.{step-refused}
 use Rattle.store.proofs.Undo.{logged-stored, noted-store}
@@ -34,7 +34,7 @@ room j a = ltb (length (stored_addresses j)) 64 || is_some (latest_store j a)
 -- how the rule of a store can go
 data StoreWay (m : List ℕ) (es : List (Event Access)) (t a : ℕ) : Verdict → Type 0 where
   store_refused : (why : Fault) → StoreWay m es t a (Err why)
-  store-allowed : t < 16 → is_some (open_job es t) ≡ true → a < length m → room (job_of es t) a ≡ true → store_conflict_rule es t (block_of a) ≡ allowed → StoreWay m es t a allowed
+  store_allowed : t < 16 → is_some (open_job es t) ≡ true → a < length m → room (job_of es t) a ≡ true → store_conflict_rule es t (block_of a) ≡ allowed → StoreWay m es t a allowed
 
 store_way : (m : List ℕ) (es : List (Event Access)) (t a : ℕ) → StoreWay m es t a (store_rule m es t a)
 store_way m es t a = go (ltb t 16) (is_some (open_job es t)) (ltb a (length m)) (room (job_of es t) a) (store_conflict_rule es t (block_of a)) refl refl refl refl refl
@@ -45,11 +45,11 @@ store_way m es t a = go (ltb t 16) (is_some (open_job es t)) (ltb a (length m)) 
     go true true false o v e₁ e₂ e₃ e₄ e₅ = store_refused _
     go true true true false v e₁ e₂ e₃ e₄ e₅ = store_refused _
     go true true true true (Err f) e₁ e₂ e₃ e₄ e₅ = store_refused _
-    go true true true true (Ok x) e₁ e₂ e₃ e₄ e₅ = store-allowed (ltb-true t 16 e₁) e₂ (ltb-true a (length m) e₃) e₄ e₅
+    go true true true true (Ok x) e₁ e₂ e₃ e₄ e₅ = store_allowed (ltb-true t 16 e₁) e₂ (ltb-true a (length m) e₃) e₄ e₅
 
 module _ (m : List ℕ) (h : History) (s : State) (sound : Sound s.holds) (whole : Whole s.words) (reached : Reached m h s) (t a : ℕ) where
   take_same : t < 16 → a < length m → store_take s.holds t (block_of a) ≡ store_conflict_rule (events h) t (block_of a)
-  take_same l k = store-conflict-same s.holds (events h) sound reached.held t (block_of a) l (block_below a (length m) k (omega (arith, reached.size)))
+  take_same l k = store_conflict-same s.holds (events h) sound reached.held t (block_of a) l (block_below a (length m) k (omega (arith, reached.size)))
 
   room-same : t < 16 → room_of s.table t a ≡ room_rule (events h) t a
   room-same l =
@@ -61,7 +61,7 @@ module _ (m : List ℕ) (h : History) (s : State) (sound : Sound s.holds) (whole
   -- the store answers by the rule
   pub store_same : store_answer s t a ≡ store_rule m (events h) t a
   store_same =
-      ap (λ v. and_then (and_then v (and_then (read_answer s.words a) (room_of s.table t a))) (store_take s.holds t (block_of a))) (judge-open m h s reached t)
+      ap (λ v. and_then (and_then v (and_then (read_answer s.words a) (room_of s.table t a))) (store_take s.holds t (block_of a))) (judge_open m h s reached t)
       ∙ ap (λ n. and_then (and_then (open_rule (events h) t) (and_then (cond (ltb a n) (Ok (get_or s.words a 0)) (Err (address_fault a))) (room_of s.table t a))) (store_take s.holds t (block_of a))) reached.size
       ∙ go (ltb t 16) (is_some (open_job (events h) t)) (ltb a (length m)) refl refl
     where
@@ -84,7 +84,7 @@ module _ (m : List ℕ) (h : History) (s : State) (sound : Sound s.holds) (whole
         (λ (is : t ≡ u). subst (λ v. (entry_at (set s.table t entry) v).is_open ≡ is_some (open_job (events h) v)) is (ap (λ v. v.is_open) (entry_same s.table t entry reached.threads l) ∙ reached.open? t l))
         (λ (ne : t ≡ u → ⊥). ap (λ v. v.is_open) (entry_other s.table t entry u ne) ∙ reached.open? u n)
         (cases_eq t u)
-        ∙ sym (open-accesses (events h) t (stores a w) u)
+        ∙ sym (open_accesses (events h) t (stores a w) u)
 
     -- no other job stored at the address
     elsewhere : (u : ℕ) → u < 16 → (t ≡ u → ⊥) → (b v : ℕ) → latest_store (job_of (events h) u) b ≡ Some v → b ≡ a → ⊥
@@ -101,7 +101,7 @@ module _ (m : List ℕ) (h : History) (s : State) (sound : Sound s.holds) (whole
 
     stored-serial : (b : ℕ) → b < length m → ((u : ℕ) → u < 16 → latest_store (job_of (accesses t (stores a w) ∷ events h) u) b ≡ None) → get_or (set s.words a w) b 0 ≡ get_or (serial_words m (events h)) b 0
     stored-serial b i none =
-        let own : latest_store (stores a w ∷ job_of (events h) t) b ≡ None = subst (λ j. latest_store j b ≡ None) (job-accesses-same (events h) t (stores a w) opened) (none t l) in
+        let own : latest_store (stores a w ∷ job_of (events h) t) b ≡ None = subst (λ j. latest_store j b ≡ None) (job_accesses_same (events h) t (stores a w) opened) (none t l) in
         ⊎_elim
         (λ (is : b ≡ a). let g = latest_same a w (job_of (events h) t) in let z : ◌≡◌ {A = ℕ} 0 1 = cc in absurd (let bad : ⊥ = omega arith in bad))
         (λ (ne : b ≡ a → ⊥).
@@ -110,31 +110,31 @@ module _ (m : List ℕ) (h : History) (s : State) (sound : Sound s.holds) (whole
         (λ u n.
         ⊎_elim
         (λ (is : t ≡ u). subst (λ v. latest_store (job_of (events h) v) b ≡ None) is (sym (latest_other a w (job_of (events h) t) b ne) ∙ own))
-        (λ (ne' : t ≡ u → ⊥). subst (λ j. latest_store j b ≡ None) (job-accesses-other (events h) t (stores a w) u ne') (none u n))
+        (λ (ne' : t ≡ u → ⊥). subst (λ j. latest_store j b ≡ None) (job_accesses_other (events h) t (stores a w) u ne') (none u n))
         (cases_eq t u)))
         (cases_eq b a)
 
     -- an undo record more, unless the job stored there before
     stored-logged : (u : ℕ) → u < 16 → (entry_at (set s.table t entry) u).undo ≡ map (record_of (serial_words m (events h))) (stored_addresses (job_of (accesses t (stores a w) ∷ events h) u))
     stored-logged =
-        by-accesses (events h) t (λ u j. u < 16 → (entry_at (set s.table t entry) u).undo ≡ map (record_of (serial_words m (events h))) (stored_addresses j)) (stores a w) opened
+        by_accesses (events h) t (λ u j. u < 16 → (entry_at (set s.table t entry) u).undo ≡ map (record_of (serial_words m (events h))) (stored_addresses j)) (stores a w) opened
         (λ n.
         ap (λ v. v.undo) (entry_same s.table t entry reached.threads l)
         ∙ ap (λ us. noted us a (get_or s.words a 0)) (reached.logged t l)
         ∙ noted-store (serial_words m (events h)) (job_of (events h) t) a w (get_or s.words a 0) roomy
-        (serial-there m h s reached t a k (λ u i ne. untouched-block (job_of (events h) u) (block_of a) (nobody_touched (events h) t (block_of a) clear u i ne))))
+        (serial_there m h s reached t a k (λ u i ne. untouched-block (job_of (events h) u) (block_of a) (nobody_touched (events h) t (block_of a) clear u i ne))))
         (λ u ne n. ap (λ v. v.undo) (entry_other s.table t entry u ne) ∙ reached.logged u n)
 
     stored-held : (u b : ℕ) → u < 16 → after_store s.holds t (block_of a) u b ≡ holding_of (job_of (accesses t (stores a w) ∷ events h) u) b
     stored-held u b =
-        by-accesses (events h) t (λ u j. u < 16 → after_store s.holds t (block_of a) u b ≡ holding_of j b) (stores a w) opened
+        by_accesses (events h) t (λ u j. u < 16 → after_store s.holds t (block_of a) u b ≡ holding_of j b) (stores a w) opened
         (λ n. take-store s.holds (job_of (events h) t) t a w b (λ c. reached.held t c n) (take_same l k ∙ clear))
         (λ u ne n. take-other StoreTake s.holds t (block_of a) u b (λ is. ne (sym is)) ∙ reached.held u b n)
         u
 
     stored-stored : (u b v : ℕ) → u < 16 → b < length m → latest_store (job_of (accesses t (stores a w) ∷ events h) u) b ≡ Some v → get_or (set s.words a w) b 0 ≡ v
     stored-stored u b v =
-        by-accesses (events h) t (λ u j. u < 16 → b < length m → latest_store j b ≡ Some v → get_or (set s.words a w) b 0 ≡ v) (stores a w) opened
+        by_accesses (events h) t (λ u j. u < 16 → b < length m → latest_store j b ≡ Some v → get_or (set s.words a w) b 0 ≡ v) (stores a w) opened
         (λ n i e. stored-own b v i e)
         (λ u ne n i e. get_or-set_other s.words a b w 0 (elsewhere u n ne b v e) ∙ reached.stored u b v n i e)
         u
@@ -144,7 +144,7 @@ module _ (m : List ℕ) (h : History) (s : State) (sound : Sound s.holds) (whole
 
     stored-loads : (u : ℕ) → u < 16 → Agrees (serial_words m (events h)) (job_of (accesses t seen ∷ sightings h) u)
     stored-loads =
-        by-accesses (sightings h) t (λ u j. u < 16 → Agrees (serial_words m (events h)) j) seen (forget_some h t ∙ opened)
+        by_accesses (sightings h) t (λ u j. u < 16 → Agrees (serial_words m (events h)) j) seen (forget_some h t ∙ opened)
         (λ n. agrees_more (serial_words m (events h)) seen (job_of (sightings h) t) tt (reached.open_loads t n))
         (λ u _. reached.open_loads u)
 
@@ -155,7 +155,7 @@ module _ (m : List ℕ) (h : History) (s : State) (sound : Sound s.holds) (whole
           size = length-set s.words a w ∙ reached.size;
           threads = length-set s.table t entry ∙ reached.threads;
           open? = stored-open;
-          above = λ u n. open-accesses-other (events h) t (stores a w) u (λ is. let bad : ⊥ = omega arith in bad) ∙ reached.above u n;
+          above = λ u n. open_accesses_other (events h) t (stores a w) u (λ is. let bad : ⊥ = omega arith in bad) ∙ reached.above u n;
           logged = stored-logged;
           held = stored-held;
           stored = stored-stored;
@@ -178,7 +178,7 @@ step-store m h s s' t a w r sound whole answered after reached = go (store_way m
         (sym (answered ∙ ap done_of (same ∙ e)))
         (sym (after ∙ state-is _ (same ∙ e)))
         (step-refused m h s (Store t a w) f (sym (ap done_of e)) reached)
-    go (store-allowed l opened k roomy clear) e same =
+    go (store_allowed l opened k roomy clear) e same =
         subst₂ (λ q z. Reached m (record { call = Store t a w; answer = q } ∷ h) z)
         (sym (answered ∙ ap done_of (same ∙ e)))
         (sym (after ∙ state-is _ (same ∙ e)))

@@ -34,11 +34,11 @@ sum-count f p zero e = refl
 sum-count f p (suc n) e = λ i. sum-count f p n (λ k l. e k (omega arith)) i + e n (omega arith) i
 
 module _ (p : Picture) (H : Holdings) (h : History) (sound : Sound H) (shows : (b : ℕ) → b < 64 → shown p b ≡ column 16 H b) (held : (t b : ℕ) → t < 16 → H t b ≡ holding_of (job_of (events h) t) b) (b : ℕ) (in-range : b < 64) where
-  by-writer : (o : Option ℕ) → Lowest (λ t. stored_in (job_of (events h) t) b) 16 o → column 16 H b ≡ cond (is_some o) 64 (count_below (λ t. touched (job_of (events h) t) b) 16)
-  by-writer (Some u) low =
+  by_writer : (o : Option ℕ) → Lowest (λ t. stored_in (job_of (events h) t) b) 16 o → column 16 H b ≡ cond (is_some o) 64 (count_below (λ t. touched (job_of (events h) t) b) 16)
+  by_writer (Some u) low =
       let all : H u b ≡ 64 = held u b low.0 ∙ cond-true _ _ _ low.1 in
       sum_one (λ t. H t b) 16 u 64 low.0 all (λ k l ne. sound.alone u k b low.0 l in-range ne all)
-  by-writer None low = sum-count (λ t. H t b) (λ t. touched (job_of (events h) t) b) 16 (λ k l. held k b l ∙ cond-false _ _ _ (low k l))
+  by_writer None low = sum-count (λ t. H t b) (λ t. touched (job_of (events h) t) b) 16 (λ k l. held k b l ∙ cond-false _ _ _ (low k l))
 
-  pub tokens-shown : shown p b ≡ tokens_rule (events h) b
-  tokens-shown = shows b in-range ∙ by-writer (first_below (λ t. stored_in (job_of (events h) t) b) 16) (lowest (λ t. stored_in (job_of (events h) t) b) 16)
+  pub tokens_shown : shown p b ≡ tokens_rule (events h) b
+  tokens_shown = shows b in-range ∙ by_writer (first_below (λ t. stored_in (job_of (events h) t) b) 16) (lowest (λ t. stored_in (job_of (events h) t) b) 16)

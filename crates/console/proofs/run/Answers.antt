@@ -1,9 +1,9 @@
 use Rattle.std.proofs.Common.{◌-◌, ◌<◌, ◌≤◌, length, Some, refl, ap, arith, true-eqb, false-eqb}
-use Rattle.console.proofs.Looped.{sofar-none, sofar-skip, sofar-stop, sofar-row, sofar-all}
+use Rattle.console.proofs.Looped.{sofar_none, sofar-skip, sofar-stop, sofar-row, sofar_all}
 use Rattle.console.proofs.run.Goals as goal
 
 pub lines-init : goal.lines-init
-lines-init g c = sofar-none g.M.Memory.beyond g.B.Book.holding g.B.Book.moves _ _ _ _
+lines-init g c = sofar_none g.M.Memory.beyond g.B.Book.holding g.B.Book.moves _ _ _ _
 
 pub lines-preserved-then-not-is_empty : goal.lines-preserved-then-not-is_empty
 lines-preserved-then-not-is_empty g c =
@@ -28,4 +28,4 @@ returns-then-report-fill-lt64 g c =
 
 pub returns : goal.returns
 returns g c =
-    sofar-all g.M.Memory.beyond g.B.Book.holding g.B.Book.moves _ _ _ _ _ c.lines.number _ _ _ _ c.lines.invariant (true-eqb _ 0 c.lines-test.ensures) _ refl refl
+    sofar_all g.M.Memory.beyond g.B.Book.holding g.B.Book.moves _ _ _ _ _ c.lines.number _ _ _ _ c.lines.invariant (true-eqb _ 0 c.lines-test.ensures) _ refl refl

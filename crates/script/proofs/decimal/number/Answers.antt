@@ -1,5 +1,5 @@
 use Rattle.std.proofs.Common.{sym, ◌∙◌}
-use Rattle.script.proofs.Reading.{none_unopened, digits_step, digits-stop, digits_end, reads_number}
+use Rattle.script.proofs.Reading.{none_unopened, digits_step, digits_stop, digits_end, reads_number}
 use Rattle.script.proofs.decimal.number.Goals as goal
 
 pub returns-then-not-opens_number : goal.returns-then-not-opens_number
@@ -15,7 +15,7 @@ digits-preserved c =
 
 pub returns-in_err-sum : goal.returns-in_err-sum
 returns-in_err-sum c =
-    let is = c.from_residual.ensures ∙ sym (digits-stop c.args.field.now c.digits.byte-index c.digits-test.true c.digits.sum c.in_err-sum.ensures c.digits.invariant) in
+    let is = c.from_residual.ensures ∙ sym (digits_stop c.args.field.now c.digits.byte-index c.digits-test.true c.digits.sum c.in_err-sum.ensures c.digits.invariant) in
     record { answer = is; writing = reads_number _ _ is }
 
 pub returns : goal.returns

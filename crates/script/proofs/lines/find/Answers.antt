@@ -1,5 +1,5 @@
 use Rattle.std.proofs.Common.{zero-add, arith}
-use Rattle.script.proofs.Cutting.{search-hit, search-miss, search_end}
+use Rattle.script.proofs.Cutting.{search_hit, search_miss, search_end}
 use Rattle.script.proofs.lines.find.Goals as goal
 
 pub search-init : goal.search-init
@@ -8,12 +8,12 @@ search-init c = zero-add _
 pub returns-then-b-byte : goal.returns-then-b-byte
 returns-then-b-byte c =
     record {
-      place = search-hit _ _ _ c.search-test.true c.if-b-byte.true c.search.invariant;
+      place = search_hit _ _ _ c.search-test.true c.if-b-byte.true c.search.invariant;
       within = omega arith;
     }
 
 pub search-preserved : goal.search-preserved
-search-preserved c = search-miss _ _ _ c.search-test.true c.if-b-byte.false c.search.invariant
+search-preserved c = search_miss _ _ _ c.search-test.true c.if-b-byte.false c.search.invariant
 
 pub returns : goal.returns
 returns c =

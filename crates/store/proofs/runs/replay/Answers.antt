@@ -1,12 +1,12 @@
 use Rattle.std.proofs.Common.{[], sym, subst, arith}
 use Rattle.store.specs.States.{state_of}
 use Rattle.store.specs.Reached.{Reached}
-use Rattle.store.proofs.Replays.{sofar-none, sofar-more, sofar-all}
+use Rattle.store.proofs.Replays.{sofar_none, sofar-more, sofar_all}
 use Rattle.store.proofs.runs.replay.Goals as goal
 
 pub turns-init : goal.turns-init
 turns-init g c =
-    sofar-none g.M.Memory.words g.M.Memory.beyond g.B.Book.holding g.B.Book.moves _ _
+    sofar_none g.M.Memory.words g.M.Memory.beyond g.B.Book.holding g.B.Book.moves _ _
     (subst (λ m. Reached (g.M.Memory.words m) [] (state_of g.M.Memory.words g.B.Book.holding c.fresh-store.result)) (sym c.fresh-store.ensures.memory) c.fresh-store.ensures.start)
 
 pub turns-preserved : goal.turns-preserved
@@ -15,4 +15,4 @@ turns-preserved g c =
 
 pub returns : goal.returns
 returns g c =
-    sofar-all g.M.Memory.words g.M.Memory.beyond g.B.Book.holding g.B.Book.moves _ _ _ _ _ c.turns.turn-index _ c.fresh-store.ensures.memory c.fresh-store.ensures.book (omega arith) c.turns.auto.turns c.turns.invariant
+    sofar_all g.M.Memory.words g.M.Memory.beyond g.B.Book.holding g.B.Book.moves _ _ _ _ _ c.turns.turn-index _ c.fresh-store.ensures.memory c.fresh-store.ensures.book (omega arith) c.turns.auto.turns c.turns.invariant

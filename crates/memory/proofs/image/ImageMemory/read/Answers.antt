@@ -1,6 +1,6 @@
 use Rattle.std.proofs.Common.{◌*◌, vec_items, sym, ap, ◌∙◌, arith}
 use Rattle.memory.specs.Buffers.{big_endian_word}
-use Rattle.memory.specs.Answered.{read-within}
+use Rattle.memory.specs.Answered.{read_within}
 use Rattle.memory.specs.Images.{length-image, get_or-image}
 use Rattle.memory.proofs.image.ImageMemory.read.Goals as goal
 
@@ -11,5 +11,5 @@ pub returns : goal.returns
 returns c =
     let bytes = vec_items c.args.self.now.buffer in
     record {
-      answer = read-within _ _ _ (omega arith) (c.word_at.ensures ∙ ap (λ l. big_endian_word l (8 * c.args.address)) c.deref.ensures.value ∙ sym (get_or-image bytes _ (omega (arith, length-image bytes))));
+      answer = read_within _ _ _ (omega arith) (c.word_at.ensures ∙ ap (λ l. big_endian_word l (8 * c.args.address)) c.deref.ensures.value ∙ sym (get_or-image bytes _ (omega (arith, length-image bytes))));
     }

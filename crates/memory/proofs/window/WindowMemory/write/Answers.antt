@@ -1,14 +1,14 @@
 use Rattle.std.proofs.Common.{◌≡◌, ◌+◌, ◌*◌, ◌<◌, ◌++◌, Err, sym, refl, ap, ◌∙◌, arith}
 use Rattle.std.proofs.lemmas.List.{set_past}
 use Rattle.memory.specs.Windows.{start_of, blocks_of}
-use Rattle.memory.specs.Answered.{write-past}
+use Rattle.memory.specs.Answered.{write_past}
 use Rattle.memory.specs.WindowsLemmas.{length-window, window-write, window-set, window-beyond-set}
 use Rattle.memory.proofs.window.WindowMemory.write.Goals as goal
 
 pub returns-then-address-size : goal.returns-then-address-size
 returns-then-address-size g c =
     record {
-      answer = ap Err c.out_of_range.ensures ∙ write-past _ _ (omega arith);
+      answer = ap Err c.out_of_range.ensures ∙ write_past _ _ (omega arith);
       after = sym (set_past _ _ _ (omega arith));
       beyond = refl;
     }
