@@ -1,6 +1,6 @@
 #!/usr/bin/env python3
 """Respells this repository's own definitions, record fields and lemmas, once, after port.py: words in snake case,
-a dash only behind the name of a definition or of one of std's list words. Renames crate log, which is the name of a
+a dash only behind a word that is a name by itself, here or among std's list words. Renames crate log, which is the name of a
 library of the kit, to record_log. Run at the top of the repository.
 
 Names of src/ that are no ghost names, strings and printed text keep their spelling. Prints what falls together."""
@@ -41,20 +41,13 @@ def declared(paths):
     goals that answers name."""
     names, within = set(), set()
     for path in paths:
-        if path.endswith((".rt", "Answers.antt", "Invariants.antt")):
+        if path.endswith((".rt", "Invariants.antt")):
             continue
+        answers = path.endswith("Answers.antt")
         for line in open(path, encoding="utf-8"):
             found = DECLARED.match(line)
-            if found:
+            if found and not (answers and (found.group(1) or "goal." in line)):
                 (within if found.group(1) else names).add(found.group(2))
-    for path in paths:
-        if not path.endswith("Answers.antt"):
-            continue
-        text = open(path, encoding="utf-8").read()
-        for line in text.split("\n"):
-            found = DECLARED.match(line)
-            if found and not found.group(1) and "goal." not in line:
-                names.add(found.group(2))
     return names - NO_NAMES, within - NO_NAMES
 
 

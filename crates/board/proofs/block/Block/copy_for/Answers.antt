@@ -1,4 +1,4 @@
-use Rattle.std.proofs.Common.{◌≡◌, ◌<◌, length, Some, None, sym, ap, ◌∙◌, rules}
+use Rattle.std.proofs.Common.{◌≡◌, ◌<◌, length, map, set, Some, None, sym, ap, ◌∙◌, rules}
 use Rattle.std.proofs.lemmas.List.{map-set}
 use Rattle.marks.specs.Rules.{state_in}
 use Rattle.book.specs.Picture.{Marks}
@@ -27,5 +27,7 @@ returns-in-None c =
     let stays : c.split.result.0.state ≡ c.args.self.now.home.state = ap (λ p. p.0) halves ∙ split_stays c.args.self.now.home.state in
     record {
       value = ap (λ p. p.1) halves ∙ sym (ap (or_split c.args.self.now.home.state) here);
-      after = rw (map-set state_in cs i (Some c.split.result.1), stays);
+      after =
+          ap (λ home. let m : Marks = record { home = home; copies = map state_in (set cs i (Some c.split.result.1)) } in m) stays
+          ∙ ap (λ copies. let m : Marks = record { home = c.args.self.now.home.state; copies = copies } in m) (map-set state_in cs i (Some c.split.result.1));
     }
