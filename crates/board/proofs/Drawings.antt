@@ -1,30 +1,17 @@
 -- How a picture follows the ledger's arrays.
-use Rattle.std.proofs.Common.{◌≡◌, ℕ, zero, suc, ◌<◌, ◌≤◌, true, false, eqb, List, [], ◌∷◌, ◌++◌, map, length, get_or, set, replicate, sym, refl, ap, ◌∙◌, ⊎_elim, arith}
+use Rattle.std.proofs.Common.{◌≡◌, ℕ, zero, suc, ◌<◌, List, [], ◌∷◌, ◌++◌, map, length, get_or, set, replicate, sym, refl, ap, ◌∙◌, ⊎_elim}
 use mathlib.Core.Path.{fun_ext}
-use Rattle.std.proofs.lemmas.List.{length-map, map-id, get_or-map, map-set, get_or-set_same, get_or-set_other}
-use Rattle.std.proofs.lemmas.Bool.{cases_eq, eqb-false, eq-eqb, ne_eqb}
-use Rattle.std.proofs.lemmas.Bool.Decides.{nat_tests}
-use Rattle.marks.specs.States.{debit_of}
-use Rattle.book.specs.Balance.{entered}
-use Rattle.book.specs.Marking.{set_at, marked, logged, noted, gathered, written_if, all_taken, relieved_picture}
-use Rattle.book.specs.Picture.{Marks, Recorded, Picture, untouched, fresh_picture, credit_of}
-use Rattle.book.proofs.Releases.{relieved-logs, relieved-at}
-use Rattle.book.proofs.Stores.{store_refused}
-use Rattle.board.specs.Drawn.{marks_in, logs_in, drawn}
-use Rattle.board.specs.Logged.{records_in}
+use Rattle.std.proofs.Math.Seq.{map-set_same}
+use Rattle.std.proofs.lemmas.List.{length-map, get_or-map, map-set, get_or-set_same, get_or-set_other}
+use Rattle.std.proofs.lemmas.Bool.{cases_eq, eq-eqb, ne_eqb}
+use Rattle.book.specs.Marking.{set_at, marked, logged, noted, relieved_to, relieved_picture, seat_picture, release_picture}
+use Rattle.book.specs.Picture.{Marks, Recorded, untouched, fresh_picture}
 use Rattle.board.specs.Shown.{marks_of}
+use Rattle.board.specs.Tables.{marks_in, seat_of, seats_in, log_of, logs_in, picture_of}
 use Rattle.board.specs.declared.block.Block.{Block}
-use Rattle.board.specs.declared.ledger.Ledger.{Ledger}
-use Rattle.board.specs.declared.tokens.TokenLog.{TokenLog}
+use Rattle.board.specs.declared.ledger.Account.{Account}
 
 -- one element replaced
-pub seat_set : (xs : List ℕ) (i v : ℕ) → i < length xs → ◌≡◌ {A = ℕ → ℕ} (λ j. get_or (set xs i v) j 0) (set_at (λ j. get_or xs j 0) i v)
-seat_set xs i v l =
-    fun_ext (λ j. ⊎_elim
-    (λ (e : j ≡ i). rw (eq-eqb j i e, e) (get_or-set_same xs i v 0 l))
-    (λ (ne : j ≡ i → ⊥). rw (ne_eqb j i ne) (get_or-set_other xs i j v 0 ne))
-    (cases_eq j i))
-
 pub at_set : {X Y : Type 0} (f : X → Y) (xs : List X) (i : ℕ) (x : X) (d : Y) → i < length xs → ◌≡◌ {A = ℕ → Y} (λ j. get_or (map f (set xs i x)) j d) (set_at (λ j. get_or (map f xs) j d) i (f x))
 at_set f xs i x d l =
     let lt : i < length (map f xs) = simp length-map l in
@@ -42,52 +29,45 @@ all_same f (suc n) (suc j) x d e = all_same f n j x d e
 pub at_replicate : {X Y : Type 0} (f : X → Y) (n : ℕ) (x : X) (d : Y) → f x ≡ d → ◌≡◌ {A = ℕ → Y} (λ j. get_or (map f (replicate n x)) j d) (λ j. d)
 at_replicate f n x d e = fun_ext (λ j. all_same f n j x d e)
 
-pub entered-limit : (credit n : ℕ) → entered credit n ≡ true → credit ≤ 64
-entered-limit credit n e = grind (arith, nat_tests)
-
 -- a fresh ledger
-pub fresh_drawn : (k : Block) (l : TokenLog) → marks_of k ≡ untouched → records_in l ≡ [] → drawn (record { blocks = replicate 64 k; seats = replicate 16 0; logs = replicate 16 l }) ≡ fresh_picture
-fresh_drawn k l e f =
-    rw (at_replicate marks_of 64 k untouched e, at_replicate records_in 16 l [] f, seats)
-  where
-    seats : ◌≡◌ {A = ℕ → ℕ} (λ t. get_or (replicate 16 0) t 0) (λ t. 0)
-    seats = fun_ext (λ t. ap (λ xs. get_or xs t 0) (sym (map-id (replicate 16 0))) ∙ all_same (λ x. x) 16 t 0 0 refl)
+pub fresh_drawn : (k : Block) (a : Account) → marks_of k ≡ untouched → seat_of a ≡ 0 → log_of a ≡ [] → picture_of (replicate 64 k) (replicate 16 a) ≡ fresh_picture
+fresh_drawn k a e s f = rw (at_replicate marks_of 64 k untouched e, at_replicate seat_of 16 a 0 s, at_replicate log_of 16 a [] f)
 
--- the marks of one block replaced, or one log
-pub block_drawn : (blocks : List Block) (seats : List ℕ) (logs : List TokenLog) (b : ℕ) (k : Block) (m : Marks) → b < length blocks → marks_of k ≡ m →
-    drawn (record { blocks = set blocks b k; seats = seats; logs = logs }) ≡ marked (drawn (record { blocks = blocks; seats = seats; logs = logs })) b m
-block_drawn blocks seats logs b k m l e = rw (at_set marks_of blocks b k untouched l, e)
+-- the marks of one block replaced, one seat, or one log; the place in the array is the number in the picture
+pub block_drawn : (blocks : List Block) (accounts : List Account) (b i : ℕ) (k : Block) (m : Marks) → i ≡ b → i < length blocks → marks_of k ≡ m → picture_of (set blocks i k) accounts ≡ marked (picture_of blocks accounts) b m
+block_drawn blocks accounts b i k m q l e = rw (at_set marks_of blocks i k untouched l, e, q)
 
-pub log_drawn : (blocks : List Block) (seats : List ℕ) (logs : List TokenLog) (t : ℕ) (g : TokenLog) (rs : List Recorded) → t < length logs → records_in g ≡ rs →
-    drawn (record { blocks = blocks; seats = seats; logs = set logs t g }) ≡ logged (drawn (record { blocks = blocks; seats = seats; logs = logs })) t rs
-log_drawn blocks seats logs t g rs l e = rw (at_set records_in logs t g [] l, e)
+seats_kept : (accounts : List Account) (i : ℕ) (a d : Account) → seat_of a ≡ seat_of (get_or accounts i d) → seats_in (set accounts i a) ≡ seats_in accounts
+seats_kept accounts i a d s = ap (λ (ys : List ℕ). λ j. get_or ys j 0) (map-set_same seat_of accounts i a d s)
+
+logs_kept : (accounts : List Account) (i : ℕ) (a d : Account) → log_of a ≡ log_of (get_or accounts i d) → logs_in (set accounts i a) ≡ logs_in accounts
+logs_kept accounts i a d s = ap (λ (ys : List (List Recorded)). λ j. get_or ys j []) (map-set_same log_of accounts i a d s)
+
+pub seat_drawn : (blocks : List Block) (accounts : List Account) (t i : ℕ) (a d : Account) → i ≡ t → i < length accounts → log_of a ≡ log_of (get_or accounts i d) → picture_of blocks (set accounts i a) ≡ seat_picture (picture_of blocks accounts) t (seat_of a)
+seat_drawn blocks accounts t i a d q l e = rw (at_set seat_of accounts i a 0 l, logs_kept accounts i a d e, q)
+
+pub log_drawn : (blocks : List Block) (accounts : List Account) (t i : ℕ) (a d : Account) (rs : List Recorded) → i ≡ t → i < length accounts → seat_of a ≡ seat_of (get_or accounts i d) → log_of a ≡ rs → picture_of blocks (set accounts i a) ≡ logged (picture_of blocks accounts) t rs
+log_drawn blocks accounts t i a d rs q l s e = rw (seats_kept accounts i a d s, at_set log_of accounts i a [] l, e, q)
 
 -- what stands in the arrays, as the picture has it
-pub block_at : (blocks : List Block) (b : ℕ) (d : Block) → b < length blocks → marks_in blocks b ≡ marks_of (get_or blocks b d)
-block_at blocks b d l = get_or-map marks_of blocks b d untouched l
+pub block_at : (blocks : List Block) (b i : ℕ) (d : Block) → i ≡ b → i < length blocks → marks_in blocks b ≡ marks_of (get_or blocks i d)
+block_at blocks b i d q l = ap (marks_in blocks) (sym q) ∙ get_or-map marks_of blocks i d untouched l
 
-pub log_at : (logs : List TokenLog) (t : ℕ) (d : TokenLog) → t < length logs → logs_in logs t ≡ records_in (get_or logs t d)
-log_at logs t d l = get_or-map records_in logs t d [] l
+pub seat_at : (accounts : List Account) (t i : ℕ) (d : Account) → i ≡ t → i < length accounts → seats_in accounts t ≡ seat_of (get_or accounts i d)
+seat_at accounts t i d q l = ap (seats_in accounts) (sym q) ∙ get_or-map seat_of accounts i d 0 l
+
+pub log_at : (accounts : List Account) (t i : ℕ) (d : Account) → i ≡ t → i < length accounts → logs_in accounts t ≡ log_of (get_or accounts i d)
+log_at accounts t i d q l = ap (logs_in accounts) (sym q) ∙ get_or-map log_of accounts i d [] l
 
 -- one record more in one log
-pub noted-drawn : (blocks : List Block) (seats : List ℕ) (logs : List TokenLog) (t b n x : ℕ) (g d : TokenLog) → t < length logs → records_in g ≡ records_in (get_or logs t d) ++ record { block = b; count = x } ∷ [] → x ≡ n →
-    drawn (record { blocks = blocks; seats = seats; logs = set logs t g }) ≡ noted (drawn (record { blocks = blocks; seats = seats; logs = logs })) t b n
-noted-drawn blocks seats logs t b n x g d l e q =
-    log_drawn blocks seats logs t g (logs_in logs t ++ record { block = b; count = n } ∷ []) l (rw (log_at logs t d l, ← q) e)
+pub noted-drawn : (blocks : List Block) (accounts : List Account) (t b n i c x : ℕ) (a d : Account) → i ≡ t → i < length accounts → c ≡ b → x ≡ n → seat_of a ≡ seat_of (get_or accounts i d) → log_of a ≡ log_of (get_or accounts i d) ++ record { block = c; count = x } ∷ [] →
+    picture_of blocks (set accounts i a) ≡ noted (picture_of blocks accounts) t b n
+noted-drawn blocks accounts t b n i c x a d q l r y s e = log_drawn blocks accounts t i a d (logs_in accounts t ++ record { block = b; count = n } ∷ []) q l s (rw (log_at accounts t i d q l, ← r, ← y) e)
 
--- what stands in the arrays, while blocks are relieved one after the other
-pub log_now : (k : Ledger) (n : ℕ) (p : Picture) (t : ℕ) (d : TokenLog) → drawn k ≡ relieved_picture n p t → t < length k.logs → records_in (get_or k.logs t d) ≡ p.logs t
-log_now k n p t d e l = sym (log_at k.logs t d l) ∙ ap (λ (q : Picture). q.logs t) e ∙ ap (λ (f : ℕ → List Recorded). f t) (relieved-logs n p t)
-
-pub block_now : (k : Ledger) (n : ℕ) (p : Picture) (t : ℕ) (d : Block) → drawn k ≡ relieved_picture n p t → n < length k.blocks → marks_of (get_or k.blocks n d) ≡ p.marks n
-block_now k n p t d e l = sym (block_at k.blocks n d l) ∙ ap (λ (q : Picture). q.marks n) e ∙ relieved-at n p t
-
--- a store that is refused: what the marks tell, and what it leaves
-pub apart_from : (k : Ledger) (t b x : ℕ) (d : Block) → b < length k.blocks → x ≡ credit_of b ((drawn k).logs t) → false ≡ eqb (debit_of (gathered (marks_of (get_or k.blocks b d))).home) x → debit_of (gathered ((drawn k).marks b)).home ≡ credit_of b ((drawn k).logs t) → ⊥
-apart_from k t b x d l credit told e = eqb-false _ _ (sym told) (ap (λ (m : Marks). debit_of (gathered m).home) (sym (block_at k.blocks b d l)) ∙ e ∙ sym credit)
-
-pub refused-drawn : (k : Ledger) (t b : ℕ) (d g : Block) → b < length k.blocks → (debit_of (gathered ((drawn k).marks b)).home ≡ credit_of b ((drawn k).logs t) → ⊥) → marks_of g ≡ written_if false t (gathered (marks_of (get_or k.blocks b d))) →
-    drawn (record { blocks = set k.blocks b g; seats = k.seats; logs = k.logs }) ≡ all_taken (drawn k) t b
-refused-drawn k t b d g l apart e =
-    let here = block_at k.blocks b d l in
-    block_drawn k.blocks k.seats k.logs b g _ l (e ∙ ap (λ (m : Marks). written_if false t (gathered m)) (sym here)) ∙ store_refused (drawn k) t b apart
+-- each block below 64 relieved of the thread's credit, and its log emptied
+pub released-drawn : (blocks news : List Block) (accounts : List Account) (t i : ℕ) (a d : Account) → i ≡ t → i < length accounts → marks_in news ≡ relieved_to 64 (marks_in blocks) (log_of (get_or accounts i d)) → seat_of a ≡ seat_of (get_or accounts i d) → log_of a ≡ [] →
+    picture_of news (set accounts i a) ≡ release_picture (picture_of blocks accounts) t
+unfolding relieved_picture
+released-drawn blocks news accounts t i a d q l m s e =
+    let log = log_at accounts t i d q l in
+    log_drawn news accounts t i a d [] q l s e ∙ ap (λ (marks : ℕ → Marks). logged (record { marks = marks; seats = seats_in accounts; logs = logs_in accounts }) t []) (m ∙ ap (relieved_to 64 (marks_in blocks)) (sym log))

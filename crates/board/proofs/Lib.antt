@@ -1,3 +1,7 @@
 mod Records
 mod Copies
 mod Drawings
+mod Ledgers
+mod Takes
+mod Releases
+mod Chains

@@ -6,7 +6,7 @@ use Rattle.board.specs.declared.tokens.TokenRecord.{TokenRecord}
 use Rattle.board.specs.declared.tokens.TokenLog.{TokenLog}
 
 abbrev pub recorded : TokenRecord → Recorded
-recorded r = record { block = r.block; count = r.count.0 }
+recorded r = record { block = r.block; count = r.count.tokens }
 
 abbrev pub records_in : TokenLog → List Recorded
 records_in l = map recorded (records_of l.records)

@@ -3,25 +3,25 @@ ghost use Rattle.std.specs.Prelude.{◌≡◌, ◌-◌, ◌<◌, ◌≤◌, true
 ghost use Rattle.marks.specs.Codes.{code_of, copy_code_of};
 ghost use Rattle.marks.specs.Rules.{state_in};
 ghost use Rattle.marks.specs.States.{in_range, debit_of, is_writer};
+ghost use Rattle.marks.specs.declared.states.Metastate.TheVariants.{Anonymous};
 ghost use Rattle.book.specs.Balance.{Fuses, Coherent};
-ghost use Rattle.book.specs.Marking.{fused, gathered, withdrawn, copy_or_split, with_copy, read_by, load_answer, written_if, relieved};
+ghost use Rattle.book.specs.Marking.{fused, gathered, withdrawn, copy_or_split, with_copy, read_by, load_answer, written_if};
 ghost use Rattle.book.specs.Picture.{untouched, debit_in, writer_in, shown_by};
-ghost use Rattle.board.specs.Shown.{marks_of};
 
-use book::Take;
+use book::{Board, Take, Thread};
 use fault::Fault;
-use marks::{Credit, Debit, Mark, Metastate, copy_code};
-
-// The tokens of a block, all of which a store takes.
-pub(crate) const TOKENS: u64 = 64;
+use marks::{Credit, Debit, Mark, Metastate, TOKENS, copy_code};
 
 #[derive(Clone, Copy)]
 pub(crate) struct Block {
     home: Mark,
     copies: [Option<Mark>; 4],
+    ghost four: { length copies ≡ 4 },
 }
 
 impl Block {
+    ghost use Rattle.board.specs.Shown.{marks_of};
+
     // No token taken, no copy.
     pub(crate) fn fresh() -> Block
         ensures { marks_of result ≡ untouched }
@@ -33,81 +33,74 @@ impl Block {
     }
 
     // Fuses home with every copy in board order; the copies go.
-    fn gather(&mut self)
-        requires { (length (marks_of self.old).copies ≡ 4) × (Coherent (marks_of self.old).home (marks_of self.old).copies) }
+    pub(crate) fn gather(&mut self)
+        requires { Coherent (marks_of self.old).home (marks_of self.old).copies }
         ensures { marks_of self.new ≡ gathered (marks_of self.old) }
     {
-        let mut home = self.home;
-        'boards: for board in 0..4 {
-            home = fuse_copy(home, self.copies[board]);
-        }
-        self.home = home;
+        self.home = self.copies.into_iter().fold(self.home, fuse_copy);
         self.copies = [None; 4];
     }
 
     // Fuses home with the board's copy; that copy goes.
-    pub(crate) fn withdraw(&mut self, board: u64)
-        requires { (board < 4) × (Fuses (marks_of self.old).home (slice_index_or (marks_of self.old).copies board None)) }
-        ensures { marks_of self.new ≡ withdrawn (marks_of self.old) board }
+    pub(crate) fn withdraw(&mut self, board: Board)
+        requires { Fuses (marks_of self.old).home (slice_index_or (marks_of self.old).copies board.number None) }
+        ensures { marks_of self.new ≡ withdrawn (marks_of self.old) board.number }
     {
-        let copy = self.copies[board as usize];
+        // in two steps, as in the ledger
+        let copies = &mut self.copies;
+        let copy = copies[board.index()].take();
         self.home = fuse_copy(self.home, copy);
-        self.copies[board as usize] = None;
     }
 
     // The board's copy. Where it has none, home is split first.
-    fn copy_for(&mut self, board: u64) -> Mark
-        requires { board < 4 }
-        ensures value { result.state ≡ copy_or_split (marks_of self.old) board }
-        ensures after { marks_of self.new ≡ with_copy (marks_of self.old) board result.state }
+    fn copy_for(&mut self, board: Board) -> Mark
+        ensures value { result.state ≡ copy_or_split (marks_of self.old) board.number }
+        ensures after { marks_of self.new ≡ with_copy (marks_of self.old) board.number result.state }
     {
-        let there = self.copies[board as usize];
-        match there {
+        match self.copies[board.index()] {
             Some(copy) => copy,
             None => {
                 let (stays, copy) = self.home.split();
                 self.home = stays;
-                self.copies[board as usize] = Some(copy);
+                self.copies[board.index()] = Some(copy);
                 copy
             }
         }
     }
 
     // Takes one token for the thread from its board's copy, unless that shows a writer.
-    pub(crate) fn load(&mut self, board: u64, thread: u64) -> Result<(), Fault>
-        requires { (board < 4) × ((is_writer (copy_or_split (marks_of self.old) board) ≡ false → in_range (read_by thread (copy_or_split (marks_of self.old) board)) ≡ true)) }
-        ensures answer { result ≡ load_answer (copy_or_split (marks_of self.old) board) }
-        ensures after { marks_of self.new ≡ with_copy (marks_of self.old) board (read_by thread (copy_or_split (marks_of self.old) board)) }
+    pub(crate) fn load(&mut self, board: Board, thread: Thread) -> Result<(), Fault>
+        requires { is_writer (copy_or_split (marks_of self.old) board.number) ≡ false → in_range (read_by thread.number (copy_or_split (marks_of self.old) board.number)) ≡ true }
+        ensures answer { result ≡ load_answer (copy_or_split (marks_of self.old) board.number) }
+        ensures after { marks_of self.new ≡ with_copy (marks_of self.old) board.number (read_by thread.number (copy_or_split (marks_of self.old) board.number)) }
     {
         let copy = self.copy_for(board);
         if let Metastate::Writer(writer) = copy.state() {
             return Err(Take::Load.refused_by(writer));
         }
-        self.copies[board as usize] = Some(read_by(thread, copy));
+        self.copies[board.index()] = Some(read_by(thread.number(), copy));
         Ok(())
     }
 
-    // Gathers the block, and makes the thread its writer where the debit is that thread's own
-    // credit. Says whether it is.
-    pub(crate) fn store(&mut self, thread: u64, credit: Credit) -> bool
-        requires { (thread < 16) × ((length (marks_of self.old).copies ≡ 4) × (Coherent (marks_of self.old).home (marks_of self.old).copies)) }
-        ensures answer { result ≡ (debit_of (gathered (marks_of self.old)).home == credit.0) }
-        ensures after { marks_of self.new ≡ written_if result thread (gathered (marks_of self.old)) }
+    // Makes the thread the block's writer where the debit at home is that thread's own credit.
+    // Says whether it is.
+    pub(crate) fn store(&mut self, thread: Thread, credit: Credit) -> bool
+        ensures answer { result ≡ (debit_of (marks_of self.old).home == credit.tokens) }
+        ensures after { marks_of self.new ≡ written_if result thread.number (marks_of self.old) }
     {
-        self.gather();
         let own = self.home.debit().equals(&credit);
         if own {
-            self.home = mark(Metastate::Writer(thread));
+            self.home = mark(Metastate::Writer(thread.number()));
         }
         own
     }
 
-    // Gathers the block, and takes a credit off the debit that home shows.
+    // Takes a credit off the debit that home shows.
     pub(crate) fn relieve(&mut self, credit: Credit)
-        requires { (length (marks_of self.old).copies ≡ 4) × ((Coherent (marks_of self.old).home (marks_of self.old).copies) × (debit_of (gathered (marks_of self.old)).home - credit.0 < 64)) }
-        ensures { marks_of self.new ≡ relieved credit.0 (marks_of self.old) }
+        requires { debit_of (marks_of self.old).home - credit.tokens < 64 }
+        ensures home { (marks_of self.new).home ≡ Anonymous (debit_of (marks_of self.old).home - credit.tokens) }
+        ensures copies { (marks_of self.new).copies ≡ (marks_of self.old).copies }
     {
-        self.gather();
         let left = self.home.debit().less(credit).tokens();
         self.home = mark(Metastate::Anonymous(left));
     }
@@ -115,34 +108,25 @@ impl Block {
     // The tokens that the marks show as taken: all where any of them shows a writer, otherwise
     // their sum.
     pub(crate) fn tokens(&self) -> u64
-        requires { length (marks_of self.now).copies ≡ 4 }
         ensures { result ≡ shown_by (marks_of self.now) }
     {
-        if shows_writer(Some(self.home)) {
+        if shows_writer(Some(self.home)) || self.copies.iter().any(|copy| shows_writer(*copy)) {
             return TOKENS;
         }
-        let mut sum = self.home.debit();
-        'boards: for board in 0..4 {
-            let copy = self.copies[board];
-            if shows_writer(copy) {
-                return TOKENS;
-            }
-            sum = sum.plus(copy_debit(copy));
-        }
-        sum.tokens()
+        self.copies
+            .into_iter()
+            .map(copy_debit)
+            .fold(self.home.debit(), Debit::plus)
+            .tokens()
     }
 
     // The codes of the five marks, home first.
     pub(crate) fn codes(&self) -> [u64; 5]
         ensures { result ≡ code_of (marks_of self.now).home ∷ map copy_code_of (marks_of self.now).copies }
     {
-        [
-            self.home.code(),
-            copy_code(self.copies[0]),
-            copy_code(self.copies[1]),
-            copy_code(self.copies[2]),
-            copy_code(self.copies[3]),
-        ]
+        // a closure: copy_code, in a private module of crate marks, has no contract by name
+        let [first, second, third, fourth] = self.copies.map(|copy| copy_code(copy));
+        [self.home.code(), first, second, third, fourth]
     }
 }
 
@@ -151,10 +135,7 @@ fn mark(state: Metastate) -> Mark
     requires { in_range state ≡ true }
     ensures { result.state ≡ state }
 {
-    let Some(mark) = Mark::new(state) else {
-        unreachable()
-    };
-    mark
+    Mark::new(state).unwrap()
 }
 
 // Home with a board's copy fused in, if there is one. In a book in balance no fusion is refused.
@@ -162,13 +143,7 @@ fn fuse_copy(home: Mark, copy: Option<Mark>) -> Mark
     requires { Fuses home.state (state_in copy) }
     ensures { result.state ≡ fused home.state (state_in copy) }
 {
-    match copy {
-        None => home,
-        Some(copy) => match home.fuse(copy) {
-            Ok(mark) => mark,
-            Err(_) => unreachable(),
-        },
-    }
+    copy.map_or(home, |copy| home.fuse(copy).unwrap())
 }
 
 // The copy from which one token more was taken.
@@ -188,23 +163,13 @@ fn read_by(thread: u64, copy: Mark) -> Mark
 fn shows_writer(copy: Option<Mark>) -> bool
     ensures { result ≡ writer_in (state_in copy) }
 {
-    match copy {
-        Some(mark) => match mark.state() {
-            Metastate::Writer(_) => true,
-            Metastate::Anonymous(_) => false,
-            Metastate::Reader(_) => false,
-        },
-        None => false,
-    }
+    copy.is_some_and(|mark| matches!(mark.state(), Metastate::Writer(_)))
 }
 
 // The debit that a copy shows, if there is one.
 fn copy_debit(copy: Option<Mark>) -> Debit
-    ensures value { result.0 ≡ debit_in (state_in copy) }
-    ensures limit { result.0 ≤ 64 }
+    ensures value { result.tokens ≡ debit_in (state_in copy) }
+    ensures limit { result.tokens ≤ 64 }
 {
-    match copy {
-        Some(mark) => mark.debit(),
-        None => Mark::untouched().debit(),
-    }
+    copy.map_or(Debit::new(0), Mark::debit)
 }

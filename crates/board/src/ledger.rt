@@ -1,98 +1,105 @@
-// The ledger of the board book: debits on the marks of the blocks, credits in the token logs.
-//
-// Its functions ask for numbers in range and for a balanced ledger; the book above it sees to both.
-ghost use Rattle.std.specs.Prelude.{◌≡◌, ◌<◌, length, Ok, nat_lt};
-ghost use Rattle.book.specs.Balance.{Balanced};
+// The ledger of the board book: debits on the marks of the blocks, credits in the token logs. It is
+// always in balance: a function that writes both sides does so before the ledger is used again.
+ghost use Rattle.std.specs.Prelude.{◌≡◌, ℕ, ◌-◌, ◌<◌, ◌≤◌, length, Ok, nat_lt};
+ghost use Rattle.marks.specs.States.{debit_of};
+ghost use Rattle.book.specs.Balance.{Balanced, Coherent};
 ghost use Rattle.book.specs.Holdings.{Lowest, is_in_the_way, cleared};
-ghost use Rattle.book.specs.Marking.{one_taken, load_picture, all_taken, store_picture, relieved_picture, release_picture, seat_picture, drop_picture};
-ghost use Rattle.book.specs.Picture.{fresh_picture, holdings_of, shown, codes_of};
+ghost use Rattle.book.specs.Marking.{one_taken, load_picture, all_taken, store_picture, gathered, relieved_to, release_picture, seat_picture, drop_picture};
+ghost use Rattle.book.specs.Picture.{fresh_picture, credit_of, holdings_of, shown, codes_of};
 ghost use Rattle.book.specs.Rules.{load_take, after_load, store_take, after_store, Released};
 ghost use Rattle.book.specs.declared.Take.TheVariants.{Store};
-ghost use Rattle.board.specs.Drawn.{drawn};
+ghost use Rattle.board.specs.Logged.{records_in};
+ghost use Rattle.board.specs.Tables.{marks_in, picture_of};
 
-use crate::block::{Block, TOKENS};
+use crate::block::Block;
 use crate::tokens::TokenLog;
-use book::Take;
+use book::{BlockNumber, Board, Take, Thread, check_board};
 use fault::Fault;
-use marks::Credit;
+use marks::{Credit, TOKENS};
+
+// What is kept of a thread: the board that it works on, and the tokens that it took.
+#[derive(Clone, Copy)]
+pub(crate) struct Account {
+    board: Board,
+    log: TokenLog,
+}
 
 #[derive(Drop)]
 pub(crate) struct Ledger {
     blocks: [Block; 64],
-    seats: [u64; 16],
-    logs: [TokenLog; 16],
+    accounts: [Account; 16],
+    ghost balanced: { ∥ Balanced (picture_of blocks accounts) ∥₁ },
 }
 
 impl Ledger {
+    ghost use Rattle.board.specs.Drawn.{drawn};
+
+    // thread and block are two parameters, as the trait Book asks for them
+
     // No token taken, every thread on board 0.
     pub(crate) fn fresh() -> Ledger
-        ensures value { drawn result ≡ fresh_picture }
-        ensures kept { ∥ Balanced (drawn result) ∥₁ }
+        ensures { drawn result ≡ fresh_picture }
     {
+        let account = Account {
+            board: check_board(0).unwrap(),
+            log: TokenLog::new(),
+        };
         Ledger {
             blocks: [Block::fresh(); 64],
-            seats: [0; 16],
-            logs: [TokenLog::new(); 16],
+            accounts: [account; 16],
         }
     }
 
     // The thread's credit on the block.
-    pub(crate) fn credit(&self, thread: u64, block: u64) -> Credit
-        requires { (thread < 16) × ((block < 64) × (∥ Balanced (drawn self.now) ∥₁)) }
-        ensures { result.0 ≡ holdings_of (drawn self.now) thread block }
+    pub(crate) fn credit(&self, thread: Thread, block: BlockNumber) -> Credit
+        ensures { result.tokens ≡ holdings_of (drawn self.now) thread.number block.number }
     {
-        self.logs[thread as usize].credit(block)
+        self.accounts[thread.index()].log.credit(block.number())
     }
 
     // Whether the thread has any.
-    fn holds(&self, thread: u64, block: u64) -> bool
-        requires { (thread < 16) × ((block < 64) × (∥ Balanced (drawn self.now) ∥₁)) }
-        ensures { result ≡ nat_lt 0 (holdings_of (drawn self.now) thread block) }
+    fn holds(&self, thread: Thread, block: BlockNumber) -> bool
+        ensures { result ≡ nat_lt 0 (holdings_of (drawn self.now) thread.number block.number) }
     {
-        self.logs[thread as usize].holds(block)
+        self.accounts[thread.index()].log.holds(block.number())
     }
 
     // The lowest-numbered other thread with credit on the block.
-    fn other_holder(&self, thread: u64, block: u64) -> Option<u64>
-        requires { (thread < 16) × ((block < 64) × (∥ Balanced (drawn self.now) ∥₁)) }
-        ensures { Lowest (is_in_the_way Store (holdings_of (drawn self.now)) thread block) 16 result }
+    fn other_holder(&self, thread: Thread, block: BlockNumber) -> Option<u64>
+        ensures { Lowest (is_in_the_way Store (holdings_of (drawn self.now)) thread.number block.number) 16 result }
     {
-        'threads: for other in 0..16u64 {
-            if other != thread && self.holds(other, block) {
-                return Some(other);
-            }
-        }
-        None
+        self.accounts
+            .iter()
+            .enumerate()
+            .position(|(other, account)| {
+                other != thread.index() && account.log.holds(block.number())
+            })
+            .map(|other| other as u64)
     }
 
     // Notes the thread's board.
-    pub(crate) fn seat(&mut self, thread: u64, board: u64)
-        requires { (thread < 16) × ((board < 4) × (∥ Balanced (drawn self.old) ∥₁)) }
-        ensures after { drawn self.new ≡ seat_picture (drawn self.old) thread board }
+    pub(crate) fn seat(&mut self, thread: Thread, board: Board)
+        ensures after { drawn self.new ≡ seat_picture (drawn self.old) thread.number board.number }
         ensures held { holdings_of (drawn self.new) ≡ holdings_of (drawn self.old) }
-        ensures kept { ∥ Balanced (drawn self.new) ∥₁ }
     {
-        self.seats[thread as usize] = board;
+        self.accounts[thread.index()].board = board;
     }
 
     // Has the board give up its copy of the block.
-    pub(crate) fn drop_copy(&mut self, board: u64, block: u64)
-        requires { (board < 4) × ((block < 64) × (∥ Balanced (drawn self.old) ∥₁)) }
-        ensures after { drawn self.new ≡ drop_picture (drawn self.old) board block }
+    pub(crate) fn drop_copy(&mut self, board: Board, block: BlockNumber)
+        ensures after { drawn self.new ≡ drop_picture (drawn self.old) board.number block.number }
         ensures held { holdings_of (drawn self.new) ≡ holdings_of (drawn self.old) }
-        ensures kept { ∥ Balanced (drawn self.new) ∥₁ }
     {
+        // Two steps: an entry with a ghost field, lent out of a struct with one, gets no proof.
         let blocks = &mut self.blocks;
-        blocks[block as usize].withdraw(board);
+        blocks[block.index()].withdraw(board);
     }
 
     // Takes a token for a load, unless the thread has credit.
-    pub(crate) fn load(&mut self, thread: u64, block: u64) -> Result<(), Fault>
-        requires { (thread < 16) × ((block < 64) × (∥ Balanced (drawn self.old) ∥₁)) }
-        ensures answer { result ≡ load_take (holdings_of (drawn self.old)) thread block }
-        ensures after { drawn self.new ≡ load_picture (drawn self.old) thread block }
-        ensures held { holdings_of (drawn self.new) ≡ after_load (holdings_of (drawn self.old)) thread block }
-        ensures kept { ∥ Balanced (drawn self.new) ∥₁ }
+    pub(crate) fn load(&mut self, thread: Thread, block: BlockNumber) -> Result<(), Fault>
+        ensures answer { result ≡ load_take (holdings_of (drawn self.old)) thread.number block.number }
+        ensures after { drawn self.new ≡ load_picture (drawn self.old) thread.number block.number }
+        ensures held { holdings_of (drawn self.new) ≡ after_load (holdings_of (drawn self.old)) thread.number block.number }
     {
         if self.holds(thread, block) {
             return Ok(());
@@ -101,26 +108,25 @@ impl Ledger {
     }
 
     // A load by a thread without credit: one token, from its board's copy.
-    fn take_one(&mut self, thread: u64, block: u64) -> Result<(), Fault>
-        requires { (thread < 16) × ((block < 64) × ((∥ Balanced (drawn self.old) ∥₁) × (holdings_of (drawn self.old) thread block ≡ 0))) }
-        ensures answer { result ≡ load_take (holdings_of (drawn self.old)) thread block }
-        ensures after { drawn self.new ≡ one_taken (drawn self.old) thread block }
+    fn take_one(&mut self, thread: Thread, block: BlockNumber) -> Result<(), Fault>
+        requires { holdings_of (drawn self.old) thread.number block.number ≡ 0 }
+        ensures answer { result ≡ load_take (holdings_of (drawn self.old)) thread.number block.number }
+        ensures after { drawn self.new ≡ one_taken (drawn self.old) thread.number block.number }
     {
-        let board = self.seats[thread as usize];
+        // in two steps, as above
+        let accounts = &mut self.accounts;
+        let account = &mut accounts[thread.index()];
         let blocks = &mut self.blocks;
-        blocks[block as usize].load(board, thread)?;
-        let logs = &mut self.logs;
-        logs[thread as usize].note(block, Credit::new(1));
+        blocks[block.index()].load(account.board, thread)?;
+        account.log.note(block.number(), Credit::new(1));
         Ok(())
     }
 
     // Takes all tokens for a store, unless the thread has them.
-    pub(crate) fn store(&mut self, thread: u64, block: u64) -> Result<(), Fault>
-        requires { (thread < 16) × ((block < 64) × (∥ Balanced (drawn self.old) ∥₁)) }
-        ensures answer { result ≡ store_take (holdings_of (drawn self.old)) thread block }
-        ensures after { drawn self.new ≡ store_picture (drawn self.old) thread block }
-        ensures held { holdings_of (drawn self.new) ≡ after_store (holdings_of (drawn self.old)) thread block }
-        ensures kept { ∥ Balanced (drawn self.new) ∥₁ }
+    pub(crate) fn store(&mut self, thread: Thread, block: BlockNumber) -> Result<(), Fault>
+        ensures answer { result ≡ store_take (holdings_of (drawn self.old)) thread.number block.number }
+        ensures after { drawn self.new ≡ store_picture (drawn self.old) thread.number block.number }
+        ensures held { holdings_of (drawn self.new) ≡ after_store (holdings_of (drawn self.old)) thread.number block.number }
     {
         let credit = self.credit(thread, block);
         if credit.tokens() >= TOKENS {
@@ -129,68 +135,72 @@ impl Ledger {
         self.take_all(thread, block, credit)
     }
 
-    // A store by a thread with credit below 64: the rest, if no other thread has any.
-    fn take_all(&mut self, thread: u64, block: u64, credit: Credit) -> Result<(), Fault>
-        requires { (thread < 16) × ((block < 64) × ((∥ Balanced (drawn self.old) ∥₁) × ((credit.0 ≡ holdings_of (drawn self.old) thread block) × (credit.0 < 64)))) }
-        ensures answer { result ≡ store_take (holdings_of (drawn self.old)) thread block }
-        ensures after { drawn self.new ≡ all_taken (drawn self.old) thread block }
+    // A store by a thread with credit below 64: gathers the block and takes the rest, if no other
+    // thread has any.
+    fn take_all(&mut self, thread: Thread, block: BlockNumber, credit: Credit) -> Result<(), Fault>
+        requires own { credit.tokens ≡ holdings_of (drawn self.old) thread.number block.number }
+        requires short { credit.tokens < 64 }
+        ensures answer { result ≡ store_take (holdings_of (drawn self.old)) thread.number block.number }
+        ensures after { drawn self.new ≡ all_taken (drawn self.old) thread.number block.number }
     {
+        // in two steps, as above
         let blocks = &mut self.blocks;
-        if blocks[block as usize].store(thread, credit) {
-            let logs = &mut self.logs;
-            logs[thread as usize].note(block, Credit::new(TOKENS - credit.tokens()));
+        let marks = &mut blocks[block.index()];
+        marks.gather();
+        if marks.store(thread, credit) {
+            let accounts = &mut self.accounts;
+            let account = &mut accounts[thread.index()];
+            account
+                .log
+                .note(block.number(), Credit::new(TOKENS - credit.tokens()));
             return Ok(());
         }
-        match self.other_holder(thread, block) {
-            Some(other) => Err(Take::Store.refused_by(other)),
-            None => unreachable(),
-        }
+        Err(Take::Store.refused_by(self.other_holder(thread, block).unwrap()))
     }
 
     // Gives back all that the thread took, and answers how many records said so.
-    pub(crate) fn release(&mut self, thread: u64) -> u64
-        requires { (thread < 16) × (∥ Balanced (drawn self.old) ∥₁) }
-        ensures answer { result ≡ length ((drawn self.old).logs thread) }
-        ensures bounds { Released (holdings_of (drawn self.old)) thread (Ok result) }
-        ensures after { drawn self.new ≡ release_picture (drawn self.old) thread }
-        ensures held { holdings_of (drawn self.new) ≡ cleared (holdings_of (drawn self.old)) thread }
-        ensures kept { ∥ Balanced (drawn self.new) ∥₁ }
+    pub(crate) fn release(&mut self, thread: Thread) -> u64
+        ensures answer { result ≡ length ((drawn self.old).logs thread.number) }
+        ensures bounds { Released (holdings_of (drawn self.old)) thread.number (Ok result) }
+        ensures after { drawn self.new ≡ release_picture (drawn self.old) thread.number }
+        ensures held { holdings_of (drawn self.new) ≡ cleared (holdings_of (drawn self.old)) thread.number }
     {
-        self.relieve(thread);
-        let logs = &mut self.logs;
-        let log = &mut logs[thread as usize];
-        let count = log.count();
-        log.clear();
+        // in two steps, as above
+        let accounts = &mut self.accounts;
+        let account = &mut accounts[thread.index()];
+        relieve(&mut self.blocks, &account.log);
+        let count = account.log.count();
+        account.log.clear();
         count
     }
 
-    // Takes the thread's credits off the debits of all blocks.
-    fn relieve(&mut self, thread: u64)
-        requires { (thread < 16) × (∥ Balanced (drawn self.old) ∥₁) }
-        ensures { drawn self.new ≡ relieved_picture 64 (drawn self.old) thread }
-    {
-        'each: for block in 0..64u64 {
-            let credit = self.logs[thread as usize].credit(block);
-            if credit.tokens() > 0 {
-                let blocks = &mut self.blocks;
-                blocks[block as usize].relieve(credit);
-            }
-        }
-    }
-
     // The tokens that the block's marks show as taken.
-    pub(crate) fn tokens(&self, block: u64) -> u64
-        requires { (block < 64) × (∥ Balanced (drawn self.now) ∥₁) }
-        ensures { result ≡ shown (drawn self.now) block }
+    pub(crate) fn tokens(&self, block: BlockNumber) -> u64
+        ensures { result ≡ shown (drawn self.now) block.number }
     {
-        self.blocks[block as usize].tokens()
+        self.blocks[block.index()].tokens()
     }
 
     // The codes of the block's marks, home first.
-    pub(crate) fn codes(&self, block: u64) -> [u64; 5]
-        requires { block < 64 }
-        ensures { result ≡ codes_of (drawn self.now) block }
+    pub(crate) fn codes(&self, block: BlockNumber) -> [u64; 5]
+        ensures { result ≡ codes_of (drawn self.now) block.number }
     {
-        self.blocks[block as usize].codes()
+        self.blocks[block.index()].codes()
+    }
+}
+
+// Gathers each block on which the log has credit, and takes that credit off its debit.
+fn relieve(blocks: &mut [Block; 64], log: &TokenLog)
+    requires limit { (b : ℕ) → b < 64 → credit_of b (records_in log.now) ≤ 64 }
+    requires coherent { (b : ℕ) → b < 64 → Coherent (marks_in blocks.old b).home (marks_in blocks.old b).copies }
+    requires left { (b : ℕ) → b < 64 → 0 < credit_of b (records_in log.now) → debit_of (gathered (marks_in blocks.old b)).home - credit_of b (records_in log.now) < 64 }
+    ensures { marks_in blocks.new ≡ relieved_to 64 (marks_in blocks.old) (records_in log.now) }
+{
+    'each: for (number, block) in blocks.iter_mut().enumerate() {
+        let credit = log.credit(number as u64);
+        if credit.tokens() > 0 {
+            block.gather();
+            block.relieve(credit);
+        }
     }
 }

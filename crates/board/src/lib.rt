@@ -8,15 +8,20 @@ ghost use Rattle.book.specs.Picture.{fresh_picture, holdings_of};
 ghost use Rattle.board.specs.Drawn.{drawn};
 ghost use Rattle.book.proofs.Balances.{balanced_from, balanced_sound, balanced_shows};
 
-pub use balanced::BoardBook;
 use book::{Book, Marked, check_block, check_board, check_thread};
 use fault::Fault;
 use ledger::Ledger;
 
-mod balanced;
 mod block;
 mod ledger;
 mod tokens;
+
+// Keeps every token twice: as a debit on the marks of its block, and as a credit in the token log
+// of its thread.
+#[derive(Drop)]
+pub struct BoardBook {
+    ledger: Ledger,
+}
 
 impl BoardBook {
     // A book with no token taken and every thread on board 0.
@@ -34,41 +39,42 @@ impl Book for BoardBook {
 
     ghost moves = { λ k m l. Marking (drawn k.ledger) m (drawn l.ledger) };
 
-    ghost sound = { λ k. balanced_sound (drawn k.ledger) (balanced_from (drawn k.ledger) k.balanced) };
+    ghost sound = { λ k. balanced_sound (drawn k.ledger) (balanced_from (drawn k.ledger) k.ledger.balanced) };
 
+    // Public calls take any number, so each checks its own first, in the order of the refusals.
     fn take_for_load(&mut self, thread: u64, block: u64) -> Result<(), Fault> {
-        check_thread(thread)?;
-        check_block(block)?;
+        let thread = check_thread(thread)?;
+        let block = check_block(block)?;
         self.ledger.load(thread, block)
     }
 
     fn take_for_store(&mut self, thread: u64, block: u64) -> Result<(), Fault> {
-        check_thread(thread)?;
-        check_block(block)?;
+        let thread = check_thread(thread)?;
+        let block = check_block(block)?;
         self.ledger.store(thread, block)
     }
 
     fn release(&mut self, thread: u64) -> Result<u64, Fault> {
-        check_thread(thread)?;
+        let thread = check_thread(thread)?;
         Ok(self.ledger.release(thread))
     }
 
     fn held(&self, thread: u64, block: u64) -> Result<u64, Fault> {
-        check_thread(thread)?;
-        check_block(block)?;
+        let thread = check_thread(thread)?;
+        let block = check_block(block)?;
         Ok(self.ledger.credit(thread, block).tokens())
     }
 
     fn seat(&mut self, thread: u64, board: u64) -> Result<(), Fault> {
-        check_thread(thread)?;
-        check_board(board)?;
+        let thread = check_thread(thread)?;
+        let board = check_board(board)?;
         self.ledger.seat(thread, board);
         Ok(())
     }
 
     fn drop_copy(&mut self, board: u64, block: u64) -> Result<(), Fault> {
-        check_board(board)?;
-        check_block(block)?;
+        let board = check_board(board)?;
+        let block = check_block(block)?;
         self.ledger.drop_copy(board, block);
         Ok(())
     }
@@ -77,15 +83,15 @@ impl Book for BoardBook {
 impl Marked for BoardBook {
     ghost picture = { λ k. drawn k.ledger };
 
-    ghost shows = { λ k b l. balanced_shows (drawn k.ledger) (balanced_from (drawn k.ledger) k.balanced) b l };
+    ghost shows = { λ k b l. balanced_shows (drawn k.ledger) (balanced_from (drawn k.ledger) k.ledger.balanced) b l };
 
     fn tokens(&self, block: u64) -> Result<u64, Fault> {
-        check_block(block)?;
+        let block = check_block(block)?;
         Ok(self.ledger.tokens(block))
     }
 
     fn codes(&self, block: u64) -> Result<[u64; 5], Fault> {
-        check_block(block)?;
+        let block = check_block(block)?;
         Ok(self.ledger.codes(block))
     }
 }

@@ -44,15 +44,14 @@ impl TokenLog {
     // The credit on a block: all that the records of it count.
     pub(crate) fn credit(&self, block: u64) -> Credit
         requires { credit_of block (records_in self.now) ≤ 64 }
-        ensures { result.0 ≡ credit_of block (records_in self.now) }
+        ensures { result.tokens ≡ credit_of block (records_in self.now) }
     {
-        let mut credit = Credit::new(0);
-        'sum: for record in self.records.records() {
-            if record.block == block {
-                credit = credit.plus(record.count);
-            }
-        }
-        credit
+        self.records
+            .records()
+            .iter()
+            .filter(|record| record.block == block)
+            .map(|record| record.count)
+            .fold(Credit::new(0), Credit::plus)
     }
 
     // Whether there is any credit on the block: where there is a record, there is.
@@ -66,11 +65,9 @@ impl TokenLog {
     // Adds a record at the end.
     pub(crate) fn note(&mut self, block: u64, count: Credit)
         requires { length (records_in self.old) < 128 }
-        ensures { records_in self.new ≡ records_in self.old ++ record { block = block; count = count.0 } ∷ [] }
+        ensures { records_in self.new ≡ records_in self.old ++ record { block = block; count = count.tokens } ∷ [] }
     {
-        let Ok(()) = self.records.push(TokenRecord { block, count }) else {
-            unreachable()
-        };
+        self.records.push(TokenRecord { block, count }).unwrap();
     }
 
     // How many records there are.

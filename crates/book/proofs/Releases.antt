@@ -1,9 +1,9 @@
 -- A release, a copy withdrawn, and a seat.
-use Rattle.std.proofs.Common.{◌≡◌, ℕ, ◌+◌, ◌-◌, ◌<◌, ◌≤◌, false, cond, eqb, ltb, List, [], length, get_or, set, None, fold, Option, sym, refl, ap, ◌∙◌, ⊎_elim, arith}
+use Rattle.std.proofs.Common.{◌≡◌, ℕ, ◌+◌, ◌-◌, ◌<◌, ◌≤◌, false, cond, eqb, ltb, List, [], length, get_or, set, None, fold, Option, sym, refl, ap, ◌∙◌, arith}
 use mathlib.Core.Path.{fun_ext}
 use Rattle.std.proofs.lemmas.List.{length-set}
 use Rattle.std.proofs.lemmas.List.Sums.{sum_by-set, get_or-le-sum_by}
-use Rattle.std.proofs.lemmas.Bool.{cases_eq, cond_both, eq-eqb, ne_eqb, lt-ltb, le-ltb, ltb-true, ltb-false}
+use Rattle.std.proofs.lemmas.Bool.{cond_both, lt-ltb, le-ltb, ltb-true, ltb-false}
 use Rattle.std.proofs.lemmas.Bool.Decides.{nat_tests}
 use Rattle.marks.specs.States.{debit_of, is_writer}
 use Rattle.marks.specs.declared.states.Metastate.{Metastate}
@@ -15,7 +15,7 @@ use Rattle.book.specs.Balance.{Shared, Agrees, InOrder, Balanced, Fuses}
 use Rattle.book.proofs.Balances.{agrees_shared, agrees_same, marked-kept}
 use Rattle.book.proofs.Fusing.{any_at, any_set, owned_at, owned_set, fuse_shared, fuse_owned}
 use Rattle.book.proofs.Stores.{gathers}
-use Rattle.book.proofs.Totals.{sum-put, sum-others, sum-nothing, sum_ones}
+use Rattle.book.proofs.Totals.{sum-put, sum-others, sum-nothing, sum-most}
 
 -- a thread's credit taken off a gathered block
 relieve_at : (h : Metastate) (cs : List (Option Metastate)) (c : ℕ → ℕ) (t : ℕ) → Agrees h cs c → t < 16 → 0 < c t → Shared (Anonymous (debit_of (fold fused h cs) - c t)) no_copies (set_at c t 0)
@@ -31,15 +31,15 @@ relieve_at h cs c t s l held =
     ones (Anonymous v) s u m = one (c u) u (s.each u m)
     ones (Reader x) s u m = one (c u) u (s.each u m)
     ones (Writer x) s u m =
-        ⊎_elim
-        (λ (e : t ≡ x). ⊎_elim (λ (q : u ≡ t). rw (eq-eqb u t q) (omega arith)) (λ (ne : u ≡ t → ⊥). let z = sum-others c 16 x u s.thread m (λ w. ne (w ∙ sym e)) (s.sum ∙ sym s.all) in one (c u) u (omega arith)) (cases_eq u t))
-        (λ (ne : t ≡ x → ⊥). let z = sum-others c 16 x t s.thread l ne (s.sum ∙ sym s.all) in absurd (let f : ⊥ = omega arith in f))
-        (cases_eq t x)
+        let e = s.sum ∙ sym s.all in
+        let y = sum-others c 16 x t s.thread l in
+        let z = sum-others c 16 x u s.thread m in
+        grind (arith, nat_tests)
 
 -- a block never shows more than 64
 debit_limit : (h : Metastate) (cs : List (Option Metastate)) (c : ℕ → ℕ) → Agrees h cs c → sum_below c 16 ≤ 64
-debit_limit (Anonymous u) cs c s = let n = sum_ones c 16 s.each in omega arith
-debit_limit (Reader x) cs c s = let n = sum_ones c 16 s.each in omega arith
+debit_limit (Anonymous u) cs c s = let n = sum-most c 16 1 s.each in omega arith
+debit_limit (Reader x) cs c s = let n = sum-most c 16 1 s.each in omega arith
 debit_limit (Writer x) cs c s = let n = s.sum in omega arith
 
 -- so what is left is a count that a mark can show
@@ -53,7 +53,7 @@ relieve_range p t b s k held =
     omega arith
 
 released_credit : (p : Picture) (t u c : ℕ) → cond (eqb u t) 0 (holdings_of p u c) ≡ credit_of c (cond (eqb u t) [] (p.logs u))
-released_credit p t u c = ⊎_elim (λ (e : u ≡ t). rw (eq-eqb u t e) refl) (λ (ne : u ≡ t → ⊥). rw (ne_eqb u t ne) refl) (cases_eq u t)
+released_credit p t u c = grind (arith, nat_tests)
 
 pub release_holds : (p : Picture) (t : ℕ) → holdings_of (release_picture p t) ≡ cleared (holdings_of p) t
 unfolding relieved_picture
@@ -74,7 +74,7 @@ release_balanced p t s l =
     }
   where
     none : (u b : ℕ) → credit_of b (p.logs t) ≤ 0 → holdings_of p u b ≡ credit_of b (cond (eqb u t) [] (p.logs u))
-    none u b z = ⊎_elim (λ (e : u ≡ t). rw (eq-eqb u t e, e) (omega arith)) (λ (ne : u ≡ t → ⊥). rw (ne_eqb u t ne) refl) (cases_eq u t)
+    none u b z = grind (arith, nat_tests)
 
 -- one copy fused into home
 pub record Withdraws (h : Metastate) (cs : List (Option Metastate)) (c : ℕ → ℕ) (i : ℕ) : Type 0 where
@@ -83,7 +83,7 @@ pub record Withdraws (h : Metastate) (cs : List (Option Metastate)) (c : ℕ →
 
 withdraws-shared : (h : Metastate) (cs : List (Option Metastate)) (c : ℕ → ℕ) (i : ℕ) → is_writer h ≡ false → Shared h cs c → i < length cs → Withdraws h cs c i
 withdraws-shared h cs c i w s l =
-    let n = sum_ones c 16 s.each in
+    let n = sum-most c 16 1 s.each in
     let e = s.sum in
     let k = get_or-le-sum_by debit_in cs i None l in
     let j = fuse_shared h (get_or cs i None) w (any_at cs i s.none) (omega arith) in
@@ -119,37 +119,27 @@ seat_balanced p t board s l =
       in_order = s.in_order;
     }
 
--- the blocks relieved one after the other: none yet, the next one, and one without credit
-pub relieved-none : (p : Picture) (t : ℕ) → p ≡ relieved_picture 0 p t
-unfolding relieved_picture
-relieved-none p t = ap (λ (marks : ℕ → Marks). let q : Picture = record { marks = marks; seats = p.seats; logs = p.logs } in q) (fun_ext (λ b. sym (rw (le-ltb b 0 (omega arith)) refl)))
+-- a picture by its marks, block by block
+same_marks : (p : Picture) (m n : ℕ → Marks) → ((b : ℕ) → m b ≡ n b) → ◌≡◌ {A = Picture} (record { marks = m; seats = p.seats; logs = p.logs }) (record { marks = n; seats = p.seats; logs = p.logs })
+same_marks p m n e = ap (λ (marks : ℕ → Marks). let q : Picture = record { marks = marks; seats = p.seats; logs = p.logs } in q) (fun_ext e)
 
-pub relieved-logs : (n : ℕ) (p : Picture) (t : ℕ) → (relieved_picture n p t).logs ≡ p.logs
-unfolding relieved_picture
-relieved-logs n p t = refl
-
+-- the blocks relieved one after the other: the next one, and one without credit
 pub relieved-at : (n : ℕ) (p : Picture) (t : ℕ) → (relieved_picture n p t).marks n ≡ p.marks n
 unfolding relieved_picture
 relieved-at n p t = rw (le-ltb n n (omega arith)) refl
 
 pub relieved-more : (n : ℕ) (p : Picture) (t : ℕ) → 0 < credit_of n (p.logs t) → marked (relieved_picture n p t) n (relieved (credit_of n (p.logs t)) (p.marks n)) ≡ relieved_picture (n + 1) p t
 unfolding relieved_picture
-relieved-more n p t held = ap (λ (marks : ℕ → Marks). let q : Picture = record { marks = marks; seats = p.seats; logs = p.logs } in q) (fun_ext (λ b. at b))
+relieved-more n p t held = same_marks p _ (relieved_to (n + 1) p.marks (p.logs t)) at
   where
     at : (b : ℕ) → set_at (relieved_to n p.marks (p.logs t)) n (relieved (credit_of n (p.logs t)) (p.marks n)) b ≡ relieved_to (n + 1) p.marks (p.logs t) b
     at b =
-        ⊎_elim
-        (λ (e : b ≡ n). rw (eq-eqb b n e, e, lt-ltb n (n + 1) (omega arith), lt-ltb 0 (credit_of n (p.logs t)) held) refl)
-        (λ (ne : b ≡ n → ⊥). let same : ltb b (n + 1) ≡ ltb b n = grind (arith, nat_tests) in rw (ne_eqb b n ne, same) refl)
-        (cases_eq b n)
+        grind (arith, nat_tests)
 
 pub relieved-less : (n : ℕ) (p : Picture) (t : ℕ) → credit_of n (p.logs t) ≤ 0 → relieved_picture n p t ≡ relieved_picture (n + 1) p t
 unfolding relieved_picture
-relieved-less n p t none = ap (λ (marks : ℕ → Marks). let q : Picture = record { marks = marks; seats = p.seats; logs = p.logs } in q) (fun_ext (λ b. at b))
+relieved-less n p t none = same_marks p (relieved_to n p.marks (p.logs t)) (relieved_to (n + 1) p.marks (p.logs t)) at
   where
     at : (b : ℕ) → relieved_to n p.marks (p.logs t) b ≡ relieved_to (n + 1) p.marks (p.logs t) b
     at b =
-        ⊎_elim
-        (λ (e : b ≡ n). rw (e, lt-ltb n (n + 1) (omega arith), le-ltb n n (omega arith), le-ltb 0 (credit_of n (p.logs t)) none) refl)
-        (λ (ne : b ≡ n → ⊥). let same : ltb b (n + 1) ≡ ltb b n = grind (arith, nat_tests) in rw same refl)
-        (cases_eq b n)
+        grind (arith, nat_tests)

@@ -4,3 +4,4 @@ pub mod Moves
 pub mod Picture
 pub mod Marking
 pub mod Balance
+pub mod Numbers

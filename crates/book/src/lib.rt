@@ -4,15 +4,18 @@
 // keeps them until it releases everything that it holds.
 #![tactic(auto)]
 
-ghost use Rattle.std.specs.Prelude.{◌≡◌};
+ghost use Rattle.std.specs.Prelude.{◌≡◌, Ok};
 ghost use Rattle.book.specs.Holdings.{Holdings, Sound};
+ghost use Rattle.book.specs.Numbers.{number_in};
 ghost use Rattle.book.specs.Moves.{Move, loaded, stored, released, seated, dropped};
-ghost use Rattle.book.specs.Rules.{by_book, granted, conflict, on_thread, on_board, on_block, load_take, after_load, store_take, after_store, holding_answer, Released, after_release, seat_answer, drop_answer};
+ghost use Rattle.book.specs.Rules.{by_book, conflict, on_thread, on_board, on_block, load_take, after_load, store_take, after_store, holding_answer, Released, after_release, seat_answer, drop_answer};
 
 use fault::{Fault, Layer, Refusal};
 pub use marked::Marked;
+pub use numbers::{BlockNumber, Board, Bounded, Thread};
 
 mod marked;
+mod numbers;
 
 // What tokens are taken for.
 #[derive(Clone, Copy, PartialEq, Eq, Debug)]
@@ -26,57 +29,34 @@ impl Take {
     pub fn refused_by(self, thread: u64) -> Fault
         ensures { result ≡ by_book (conflict self thread) }
     {
-        let refusal = match self {
+        Layer::Book.refuses(match self {
             Take::Load => Refusal::LoadConflict(thread),
             Take::Store => Refusal::StoreConflict(thread),
-        };
-        Fault {
-            layer: Layer::Book,
-            refusal,
-        }
-    }
-}
-
-// Refuses a thread above 15, under the books' letter.
-pub fn check_thread(thread: u64) -> Result<(), Fault>
-    ensures { result ≡ on_thread thread granted }
-{
-    if thread < 16 {
-        Ok(())
-    } else {
-        Err(Fault {
-            layer: Layer::Book,
-            refusal: Refusal::ThreadOutOfRange(thread),
         })
     }
 }
 
-// Refuses a board above 3.
-pub fn check_board(board: u64) -> Result<(), Fault>
-    ensures { result ≡ on_board board granted }
+// One name for each number, since each has a refusal of its own; so none is a TryFrom<u64> either.
+
+// A thread's number. Refuses one above 15, under the books' letter.
+pub fn check_thread(thread: u64) -> Result<Thread, Fault>
+    ensures { number_in result ≡ on_thread thread (Ok thread) }
 {
-    if board < 4 {
-        Ok(())
-    } else {
-        Err(Fault {
-            layer: Layer::Book,
-            refusal: Refusal::BoardOutOfRange(board),
-        })
-    }
+    Bounded::new(thread, Refusal::ThreadOutOfRange(thread))
 }
 
-// Refuses a block above 63.
-pub fn check_block(block: u64) -> Result<(), Fault>
-    ensures { result ≡ on_block block granted }
+// A board's number. Refuses one above 3.
+pub fn check_board(board: u64) -> Result<Board, Fault>
+    ensures { number_in result ≡ on_board board (Ok board) }
 {
-    if block < 64 {
-        Ok(())
-    } else {
-        Err(Fault {
-            layer: Layer::Book,
-            refusal: Refusal::BlockOutOfRange(block),
-        })
-    }
+    Bounded::new(board, Refusal::BoardOutOfRange(board))
+}
+
+// A block's number. Refuses one above 63.
+pub fn check_block(block: u64) -> Result<BlockNumber, Fault>
+    ensures { number_in result ≡ on_block block (Ok block) }
+{
+    Bounded::new(block, Refusal::BlockOutOfRange(block))
 }
 
 // A book of holdings. Its users know only what stands here.
@@ -86,6 +66,8 @@ pub trait Book {
 
     // what the book itself promises of one call: its marks, its logs, its release figure
     ghost moves: { Self → Move → Self → Type 0 };
+
+    // Two methods for the two takes: each promises a move of its own, and a book with marks does two different things.
 
     // Takes one token of the block, unless the thread has one already or another thread has all.
     fn take_for_load(&mut self, thread: u64, block: u64) -> Result<(), Fault>

@@ -4,17 +4,11 @@ use marks::{Mark, Metastate};
 use std::test::Fail;
 
 fn mark(state: Metastate) -> Result<Mark, Fail> {
-    match Mark::new(state) {
-        Some(mark) => Ok(mark),
-        None => Err(Fail::new("out of range")),
-    }
+    Ok(Mark::new(state).ok_or("out of range")?)
 }
 
 fn apart(sum: u64) -> Fault {
-    Fault {
-        layer: Layer::Marks,
-        refusal: Refusal::MarksApart(sum),
-    }
+    Layer::Marks.refuses(Refusal::MarksApart(sum))
 }
 
 #[test]

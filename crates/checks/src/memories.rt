@@ -4,19 +4,12 @@ use memory::{Image, Memory, Plain, Window};
 use std::test::Fail;
 
 fn past_the_end(address: u64) -> Fault {
-    Fault {
-        layer: Layer::Memory,
-        refusal: Refusal::AddressOutOfRange(address),
-    }
+    Layer::Memory.refuses(Refusal::AddressOutOfRange(address))
 }
 
 // Words 1, 2, 3 and so on.
 fn counting(rt: &HostRuntime, count: u64) -> Result<Plain, Fail> {
-    let mut words = Vec::new(rt.alloc());
-    for i in 0..count {
-        words.push(i + 1)?;
-    }
-    Ok(Plain::over(words))
+    Ok(Plain::over((1..=count).collect(rt.alloc())?))
 }
 
 #[test]
@@ -72,20 +65,8 @@ fn every_byte_of_a_word(rt: HostRuntime) -> Result<(), Fail> {
     let mut memory = Image::over(vec![in rt.alloc(); 0; 64]?);
     assert_eq!(rt; memory.write(1, 0x0102_0304_0506_0708), Ok(()));
     assert_eq!(rt; memory.read(1), Ok(0x0102_0304_0506_0708));
-    for (place, byte) in [
-        (7usize, 0u8),
-        (8, 1),
-        (9, 2),
-        (10, 3),
-        (11, 4),
-        (12, 5),
-        (13, 6),
-        (14, 7),
-        (15, 8),
-        (16, 0),
-    ] {
-        assert_eq!(rt; memory.buffer().get(place).copied(), Some(byte));
-    }
+    let bytes = [0u8, 1, 2, 3, 4, 5, 6, 7, 8, 0];
+    assert_eq!(rt; memory.buffer().get(7..17), Some(bytes.as_slice()));
     Ok(())
 }
 
@@ -125,9 +106,7 @@ fn reports_of_any_length(rt: HostRuntime) -> Result<(), Fail> {
     ] {
         let report = Image::over(vec![in rt.alloc(); 1; bytes]?);
         let table = Plain::over(vec![in rt.alloc(); 0; 512]?);
-        let Ok((table, done)) = frames::unpack(&report, table) else {
-            return Err(Fail::new("refused"));
-        };
+        let (table, done) = frames::unpack(&report, table)?;
         assert_eq!(rt; done.blocks, blocks);
         assert_eq!(rt; done.words, 8 * blocks);
         assert_eq!(rt; done.trailing, trailing);

@@ -9,15 +9,11 @@ fn reports(rt: &HostRuntime, script: &[u8], size: usize, expected: &[u8]) -> Res
     let mut report = vec![in rt.alloc(); 33u8; size]?;
     let table = Plain::over(vec![in rt.alloc(); 5; 16]?);
     let (_store, ran) = run_fresh(table, BoardBook::new(), script, &mut report);
-    if ran.fill != expected.len() {
-        return Ok(false);
-    }
-    for (i, byte) in report.as_slice().iter().enumerate() {
-        if *byte != expected.get(i).copied().unwrap_or(33) {
-            return Ok(false);
-        }
-    }
-    Ok(true)
+    Ok(
+        ran.fill == expected.len()
+            && report.starts_with(expected)
+            && report.iter().skip(ran.fill).all(|byte| *byte == 33),
+    )
 }
 
 #[test]

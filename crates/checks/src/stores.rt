@@ -1,27 +1,22 @@
 // The store on worked lists of calls.
 use board::BoardBook;
 use book::Book;
-use fault::{Fault, Layer, Refusal};
+use fault::{Layer, Refusal};
 use full::FullBook;
 use memory::{Memory, Plain};
+use std::process::Abort;
 use std::test::Fail;
 use store::{Answer, Call, Store};
 
-fn refused(layer: Layer, refusal: Refusal) -> Fault {
-    Fault { layer, refusal }
-}
-
-// A store over so many words, all 10, with the full book.
-fn tens(rt: &HostRuntime, words: usize) -> Result<Store<Plain, FullBook>, Fail> {
-    Ok(Store::fresh(
-        Plain::over(vec![in rt.alloc(); 10; words]?),
-        FullBook::new(),
-    ))
+// A store over so many words, all 10, with a fresh book.
+fn tens<B: Book + Drop>(rt: &HostRuntime, words: usize, book: B) -> Result<Store<Plain, B>, Fail> {
+    let memory = Plain::over(vec![in rt.alloc(); 10; words]?);
+    Ok(Store::fresh(memory, book))
 }
 
 #[test]
 fn an_abort_puts_back_the_word_before_the_first_store(rt: HostRuntime) -> Result<(), Fail> {
-    let mut store = tens(&rt, 512)?;
+    let mut store = tens(&rt, 512, FullBook::new())?;
     assert_eq!(rt; store.begin(1), Ok(()));
     assert_eq!(rt; store.store(1, 3, 15), Ok(()));
     assert_eq!(rt; store.store(1, 3, 20), Ok(()));
@@ -31,18 +26,21 @@ fn an_abort_puts_back_the_word_before_the_first_store(rt: HostRuntime) -> Result
     Ok(())
 }
 
+// Thread 4 loads word 0 and then stores 11 there, in a job that stays open.
+fn load_and_store<B: Book>(rt: &impl Abort, store: &mut Store<Plain, B>) {
+    assert_eq!(rt; store.begin(4), Ok(()));
+    assert_eq!(rt; store.load(4, 0), Ok(10));
+    assert_eq!(rt; store.store(4, 0, 11), Ok(()));
+}
+
 #[test]
 fn a_load_and_a_store_of_one_word(rt: HostRuntime) -> Result<(), Fail> {
-    let mut store = tens(&rt, 512)?;
-    assert_eq!(rt; store.begin(4), Ok(()));
-    assert_eq!(rt; store.load(4, 0), Ok(10));
-    assert_eq!(rt; store.store(4, 0, 11), Ok(()));
+    let mut store = tens(&rt, 512, FullBook::new())?;
+    load_and_store(&rt, &mut store);
     assert_eq!(rt; store.commit(4), Ok((1, 1)));
     assert_eq!(rt; store.memory().read(0), Ok(11));
-    let mut store = Store::fresh(Plain::over(vec![in rt.alloc(); 10; 512]?), BoardBook::new());
-    assert_eq!(rt; store.begin(4), Ok(()));
-    assert_eq!(rt; store.load(4, 0), Ok(10));
-    assert_eq!(rt; store.store(4, 0, 11), Ok(()));
+    let mut store = tens(&rt, 512, BoardBook::new())?;
+    load_and_store(&rt, &mut store);
     assert_eq!(rt;
         store.commit(4),
         Ok((1, 2)),
@@ -53,22 +51,22 @@ fn a_load_and_a_store_of_one_word(rt: HostRuntime) -> Result<(), Fail> {
 
 #[test]
 fn seats_and_drops(rt: HostRuntime) -> Result<(), Fail> {
-    let mut store = Store::fresh(Plain::over(vec![in rt.alloc(); 10; 512]?), BoardBook::new());
+    let mut store = tens(&rt, 512, BoardBook::new())?;
     assert_eq!(rt;
         store.seat(16, 0),
-        Err(refused(Layer::Store, Refusal::ThreadOutOfRange(16)))
+        Err(Layer::Store.refuses(Refusal::ThreadOutOfRange(16)))
     );
     assert_eq!(rt;
         store.seat(15, 4),
-        Err(refused(Layer::Book, Refusal::BoardOutOfRange(4)))
+        Err(Layer::Book.refuses(Refusal::BoardOutOfRange(4)))
     );
     assert_eq!(rt;
         store.drop_copy(4, 64),
-        Err(refused(Layer::Book, Refusal::BoardOutOfRange(4)))
+        Err(Layer::Book.refuses(Refusal::BoardOutOfRange(4)))
     );
     assert_eq!(rt;
         store.drop_copy(3, 64),
-        Err(refused(Layer::Book, Refusal::BlockOutOfRange(64)))
+        Err(Layer::Book.refuses(Refusal::BlockOutOfRange(64)))
     );
     assert_eq!(rt; store.begin(1), Ok(()));
     assert_eq!(rt; store.load(1, 7), Ok(10));
@@ -81,7 +79,7 @@ fn seats_and_drops(rt: HostRuntime) -> Result<(), Fail> {
     assert_eq!(rt; store.begin(2), Ok(()));
     assert_eq!(rt;
         store.store(2, 0, 1),
-        Err(refused(Layer::Book, Refusal::StoreConflict(1)))
+        Err(Layer::Book.refuses(Refusal::StoreConflict(1)))
     );
     assert_eq!(rt; store.store(1, 0, 1), Ok(()));
     assert_eq!(rt; store.commit(1), Ok((1, 2)));
@@ -90,12 +88,12 @@ fn seats_and_drops(rt: HostRuntime) -> Result<(), Fail> {
 
 #[test]
 fn a_full_undo_log(rt: HostRuntime) -> Result<(), Fail> {
-    let mut store = tens(&rt, 512)?;
+    let mut store = tens(&rt, 512, FullBook::new())?;
     assert_eq!(rt; store.begin(0), Ok(()));
     for address in 0..64 {
         assert_eq!(rt; store.store(0, address, address), Ok(()));
     }
-    let full = refused(Layer::Store, Refusal::UndoLogFull(64));
+    let full = Layer::Store.refuses(Refusal::UndoLogFull(64));
     assert_eq!(rt; store.store(0, 64, 1), Err(full));
     assert_eq!(rt; store.store(0, 63, 7), Ok(()));
     assert_eq!(rt; store.load(0, 64), Ok(10));
@@ -111,23 +109,23 @@ fn a_full_undo_log(rt: HostRuntime) -> Result<(), Fail> {
 
 #[test]
 fn a_conflict_names_the_lowest_other_job(rt: HostRuntime) -> Result<(), Fail> {
-    let mut store = tens(&rt, 16)?;
+    let mut store = tens(&rt, 16, FullBook::new())?;
     for thread in [2u64, 9, 15] {
         assert_eq!(rt; store.begin(thread), Ok(()));
         assert_eq!(rt; store.load(thread, 7), Ok(10));
     }
     assert_eq!(rt;
         store.store(9, 0, 1),
-        Err(refused(Layer::Book, Refusal::StoreConflict(2)))
+        Err(Layer::Book.refuses(Refusal::StoreConflict(2)))
     );
     assert_eq!(rt;
         store.store(2, 0, 1),
-        Err(refused(Layer::Book, Refusal::StoreConflict(9)))
+        Err(Layer::Book.refuses(Refusal::StoreConflict(9)))
     );
     assert_eq!(rt; store.store(15, 8, 1), Ok(()));
     assert_eq!(rt;
         store.load(2, 15),
-        Err(refused(Layer::Book, Refusal::LoadConflict(15)))
+        Err(Layer::Book.refuses(Refusal::LoadConflict(15)))
     );
     assert_eq!(rt; store.commit(2), Ok((0, 1)));
     assert_eq!(rt; store.abort(9), Ok((0, 1)));
@@ -141,43 +139,43 @@ fn a_conflict_names_the_lowest_other_job(rt: HostRuntime) -> Result<(), Fail> {
 
 #[test]
 fn every_refusal_at_its_edge(rt: HostRuntime) -> Result<(), Fail> {
-    let mut store = tens(&rt, 0)?;
+    let mut store = tens(&rt, 0, FullBook::new())?;
     assert_eq!(rt;
         store.begin(16),
-        Err(refused(Layer::Store, Refusal::ThreadOutOfRange(16)))
+        Err(Layer::Store.refuses(Refusal::ThreadOutOfRange(16)))
     );
     assert_eq!(rt;
         store.load(15, 0),
-        Err(refused(Layer::Store, Refusal::NoJobOpen(15)))
+        Err(Layer::Store.refuses(Refusal::NoJobOpen(15)))
     );
     assert_eq!(rt; store.call(Call::Begin(15)), Ok(Answer::Done));
     assert_eq!(rt;
         store.call(Call::Begin(15)),
-        Err(refused(Layer::Store, Refusal::JobOpen(15)))
+        Err(Layer::Store.refuses(Refusal::JobOpen(15)))
     );
     assert_eq!(rt;
         store.load(15, 0),
-        Err(refused(Layer::Memory, Refusal::AddressOutOfRange(0)))
+        Err(Layer::Memory.refuses(Refusal::AddressOutOfRange(0)))
     );
     assert_eq!(rt;
         store.store(15, u64::MAX, 0),
-        Err(refused(Layer::Memory, Refusal::AddressOutOfRange(u64::MAX)))
+        Err(Layer::Memory.refuses(Refusal::AddressOutOfRange(u64::MAX)))
     );
     assert_eq!(rt; store.call(Call::Commit(15)), Ok(Answer::Ended(0, 0)));
     assert_eq!(rt;
         store.abort(15),
-        Err(refused(Layer::Store, Refusal::NoJobOpen(15)))
+        Err(Layer::Store.refuses(Refusal::NoJobOpen(15)))
     );
     assert_eq!(rt;
         store.commit(u64::MAX),
-        Err(refused(Layer::Store, Refusal::ThreadOutOfRange(u64::MAX)))
+        Err(Layer::Store.refuses(Refusal::ThreadOutOfRange(u64::MAX)))
     );
     Ok(())
 }
 
 #[test]
 fn jobs_on_different_blocks(rt: HostRuntime) -> Result<(), Fail> {
-    let mut store = tens(&rt, 512)?;
+    let mut store = tens(&rt, 512, FullBook::new())?;
     for thread in 0..16 {
         assert_eq!(rt; store.begin(thread), Ok(()));
     }

@@ -1,3 +1,2 @@
-pub mod Lines
-pub mod Tails
+pub mod OneLine
 pub mod Looped

@@ -2,17 +2,21 @@
 #![tactic(auto)]
 
 ghost use Rattle.std.specs.Prelude.{◌≡◌, ◌+◌, ◌≤◌, [], ◌∷◌, ◌++◌, length, take, drop};
-ghost use Rattle.console.specs.Runs.{CarriesAll, TravelsAll, TextRight, Reported, RanFresh, full_fault};
+ghost use Rattle.console.specs.Runs.{CarriesAll, TravelsAll, TextRight, Reported, RanFresh};
 ghost use Rattle.script.specs.Rows.{Within, row_of};
 ghost use Rattle.store.specs.States.{state_of};
 
+mod lines;
+
 use book::{Book, Marked};
 use fault::{Fault, Layer, Refusal};
+use lines::Lines;
 use memory::Memory;
-use script::{parse, put_row, split_line};
+use script::{parse, put_row};
 use store::{Answer, Store};
 
 // Runs one line: its call, or its text refusal.
+// `Within` stands here, at add_row and at the rows in script, since an outcome in range has no type of its own: Answer is what any store answers.
 fn run_line<M: Memory, B: Book>(store: &mut Store<M, B>, line: &[u8]) -> Result<Answer, Fault>
     ensures text { TextRight (record { number = 0; line = line.now; outcome = result }) }
     ensures within { Within result }
@@ -20,10 +24,7 @@ fn run_line<M: Memory, B: Book>(store: &mut Store<M, B>, line: &[u8]) -> Result<
     ensures own { TravelsAll B.Book.holding B.Book.moves (state_of M.Memory.words B.Book.holding store.old) (record { number = 0; line = line.now; outcome = result } ∷ []) store.old.book store.new.book }
     ensures beyond { M.Memory.beyond store.new.memory ≡ M.Memory.beyond store.old.memory }
 {
-    match parse(line) {
-        Ok(call) => store.call(call),
-        Err(fault) => Err(fault),
-    }
+    store.call(parse(line)?)
 }
 
 // Writes the row at the fill mark, where 64 bytes are free, and answers its length.
@@ -34,22 +35,10 @@ fn add_row(report: &mut [u8], fill: usize, line: u64, outcome: Result<Answer, Fa
     ensures short { result ≤ 64 }
     ensures after { report.new ≡ take fill report.old ++ (row_of line outcome ++ drop (fill + result) report.old) }
 {
-    match put_row(&mut report[fill..], line, outcome) {
-        Some(count) => count,
-        None => 0,
-    }
+    put_row(&mut report[fill..], line, outcome).unwrap()
 }
 
-// The refusal of a line that finds too little room in the report.
-fn report_full(line: u64) -> Fault
-    ensures { result ≡ full_fault line }
-{
-    Fault {
-        layer: Layer::Text,
-        refusal: Refusal::ReportFull(line),
-    }
-}
-
+// A rule of the project: the caller lends the report, so it goes with its fill mark.
 // How far a script came: the bytes of the report that are filled, and the refusal by which it stopped early.
 #[derive(Clone, Copy, PartialEq, Eq, Debug)]
 pub struct Ran {
@@ -61,18 +50,13 @@ pub struct Ran {
 pub fn run<M: Memory, B: Book>(store: &mut Store<M, B>, script: &[u8], report: &mut [u8]) -> Ran
     ensures { Reported M.Memory.beyond B.Book.holding B.Book.moves (state_of M.Memory.words B.Book.holding store.old) store.old script.now report.old result report.new (state_of M.Memory.words B.Book.holding store.new) store.new }
 {
-    let mut rest = script;
-    let mut number = 0u64;
     let mut fill = 0usize;
-    'lines: while !rest.is_empty() {
-        let (line, after) = split_line(rest);
-        rest = after;
-        number += 1;
+    'lines: for (number, line) in (1u64..).zip(Lines { rest: script }) {
         if !line.is_empty() {
             if report.len() - fill < 64 {
                 return Ran {
                     fill,
-                    stopped: Some(report_full(number)),
+                    stopped: Some(Layer::Text.refuses(Refusal::ReportFull(number))),
                 };
             }
             let outcome = run_line(store, line);

@@ -1,5 +1,6 @@
 -- The letter of each layer, and the number and the carried value of each refusal.
-use Rattle.std.specs.Prelude.{ℕ}
+use Rattle.std.specs.Prelude.{ℕ, List, ◌∷◌, ◌++◌, decimal}
+use Rattle.fault.specs.declared.Fault.{Fault}
 use Rattle.fault.specs.declared.Layer.{Layer}
 use Rattle.fault.specs.declared.Layer.TheVariants.{Text, Store, Memory, Book, Marks}
 use Rattle.fault.specs.declared.Refusal.{Refusal}
@@ -44,3 +45,7 @@ place_of UnknownCommand = 1
 place_of (WrongFieldCount n) = n
 place_of (NotANumber f) = f
 place_of (ReportFull l) = l
+
+-- as it is printed: letter, number and place, with single spaces
+abbrev pub text_of : Fault → List ℕ
+text_of f = letter_of f.layer ∷ 32 ∷ (decimal (number_of f.refusal) ++ (32 ∷ decimal (place_of f.refusal)))

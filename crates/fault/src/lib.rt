@@ -4,8 +4,10 @@
 // station prints; docs/REFUSALS.md lists them all.
 #![tactic(auto)]
 
-ghost use Rattle.std.specs.Prelude.{◌≡◌};
-ghost use Rattle.fault.specs.Numbers.{letter_of, number_of, place_of};
+ghost use Rattle.std.specs.Prelude.{◌≡◌, Some};
+ghost use Rattle.fault.specs.Numbers.{letter_of, number_of, place_of, text_of};
+
+use std::fmt;
 
 // The layer that refused.
 #[derive(Clone, Copy, PartialEq, Eq, Debug)]
@@ -33,6 +35,16 @@ impl Layer {
             Layer::Memory => 'M',
             Layer::Book => 'B',
             Layer::Marks => 'K',
+        }
+    }
+
+    // The fault that the layer gives by a refusal.
+    pub fn refuses(self, refusal: Refusal) -> Fault
+        ensures { result ≡ record { layer = self; refusal = refusal } }
+    {
+        Fault {
+            layer: self,
+            refusal,
         }
     }
 }
@@ -98,20 +110,20 @@ impl Refusal {
         ensures { result ≡ place_of self }
     {
         match self {
-            Refusal::ThreadOutOfRange(thread) => thread,
-            Refusal::JobOpen(thread) => thread,
-            Refusal::NoJobOpen(thread) => thread,
-            Refusal::AddressOutOfRange(address) => address,
-            Refusal::UndoLogFull(address) => address,
-            Refusal::LoadConflict(thread) => thread,
-            Refusal::StoreConflict(thread) => thread,
-            Refusal::BoardOutOfRange(board) => board,
-            Refusal::BlockOutOfRange(block) => block,
-            Refusal::MarksApart(sum) => sum,
+            Refusal::ThreadOutOfRange(carried)
+            | Refusal::JobOpen(carried)
+            | Refusal::NoJobOpen(carried)
+            | Refusal::AddressOutOfRange(carried)
+            | Refusal::UndoLogFull(carried)
+            | Refusal::LoadConflict(carried)
+            | Refusal::StoreConflict(carried)
+            | Refusal::BoardOutOfRange(carried)
+            | Refusal::BlockOutOfRange(carried)
+            | Refusal::MarksApart(carried)
+            | Refusal::WrongFieldCount(carried)
+            | Refusal::NotANumber(carried)
+            | Refusal::ReportFull(carried) => carried,
             Refusal::UnknownCommand => 1,
-            Refusal::WrongFieldCount(found) => found,
-            Refusal::NotANumber(field) => field,
-            Refusal::ReportFull(line) => line,
         }
     }
 }
@@ -140,5 +152,14 @@ impl Fault {
         ensures { result ≡ place_of self.refusal }
     {
         self.refusal.place()
+    }
+}
+
+// As it is printed: the layer's letter, the number and the place, with single spaces.
+impl fmt::Display for Fault {
+    ghost output = { λ fault. Some (text_of fault) };
+
+    fn fmt<W: fmt::Write>(&self, f: &mut fmt::Formatter<W>) -> fmt::Result {
+        write!(f, "{} {} {}", self.letter(), self.number(), self.place())
     }
 }

@@ -1,14 +1,18 @@
 -- Frames copied through a window over the table: what the table holds then.
-use Rattle.std.proofs.Common.{◌≡◌, ℕ, ◌+◌, ◌-◌, ◌*◌, ◌/◌, List, ◌++◌, length, take, drop, sym, ap, ◌∙◌, append_assoc, append-nil, arith}
+use Rattle.std.proofs.Common.{◌≡◌, ℕ, ◌+◌, ◌*◌, List, ◌++◌, length, take, drop, sym, ap, ◌∙◌, append_assoc, append-nil, arith}
 use Rattle.std.proofs.lemmas.List.{take-append-drop, drop-append-le, drop_all}
+use Rattle.std.proofs.lemmas.Grind.{common_steps}
 use Rattle.memory.specs.Words.{whole_blocks}
 use Rattle.memory.specs.Buffers.{plain_words, plain_beyond, image_words}
 use Rattle.memory.specs.Windows.{start_of, blocks_of, window_words, window_beyond}
 use Rattle.memory.specs.Fronts.{length-plain, whole_plain}
 use Rattle.memory.specs.Images.{length-image}
 use Rattle.memory.specs.WindowsLemmas.{length-window, window_rejoined}
-use Rattle.frames.specs.declared.Unpacked.{Unpacked}
-use Rattle.frames.specs.Frames.{count_of, copied, unpacked_blocks, unpacked_table, unpacked_answer}
+use Rattle.frames.specs.Frames.{count_of, copied, unpacked_blocks, unpacked_table}
+
+-- the words of a window over a table
+pub length-table_window : (table : List ℕ) (first count : ℕ) → length (window_words (plain_words table) first count) ≡ 8 * blocks_of (plain_words table) first count
+length-table_window table first count = length-window (plain_words table) (whole_plain table) first count
 
 module _ (bytes table : List ℕ) where
   n : ℕ
@@ -25,14 +29,14 @@ module _ (bytes table : List ℕ) where
   blocks_is = omega (arith, length-plain table)
 
   count_is : count_of (image_words bytes) (window_words (plain_words table) 0 (whole_blocks (length bytes) 64)) ≡ 8 * unpacked_blocks bytes table
-  count_is = omega (arith, length-image bytes, length-plain table, length-window (plain_words table) (whole_plain table) 0 (whole_blocks (length bytes) 64))
+  count_is = omega (arith, length-image bytes, length-plain table, length-table_window table 0 (whole_blocks (length bytes) 64))
 
   -- the window is filled whole
   filled : copied (image_words bytes) (window_words ws 0 frames) ≡ take (8 * n) (image_words bytes)
   unfolding n ws frames
   filled =
       ap (λ k. take k (image_words bytes) ++ drop k (window_words ws 0 frames)) count_is
-      ∙ ap (λ l. take (8 * n) (image_words bytes) ++ l) (drop_all (8 * n) _ (omega (arith, blocks_is, length-window ws (whole_plain table) 0 frames)))
+      ∙ ap (λ l. take (8 * n) (image_words bytes) ++ l) (drop_all (8 * n) _ (omega (arith, blocks_is, length-table_window table 0 frames)))
       ∙ append-nil _
 
   rest : drop (8 * n) ws ++ drop (8 * whole_blocks (length table) 8) table ≡ drop (8 * n) table
@@ -59,20 +63,11 @@ module _ (bytes table : List ℕ) where
         ∙ ap (λ l. take (8 * n) (image_words bytes) ++ l) rest
 
   -- the same, of the window as `unpack` makes it
-  module _ (table' : List ℕ) (first₀ count₀ : ℕ) (et : table' ≡ table) (ef : first₀ ≡ 0) (es : 8 * count₀ ≡ length (image_words bytes)) where
-    ec : count₀ ≡ whole_blocks (length bytes) 64
-    ec = omega (arith, length-image bytes)
+  pub unpacked : (table' : List ℕ) (first₀ count₀ : ℕ) → table' ≡ table → first₀ ≡ 0 → 8 * count₀ ≡ length (image_words bytes) → (after : List ℕ) (first count : ℕ) → window_words (plain_words after) first count ≡ copied (image_words bytes) (window_words (plain_words table') first₀ count₀) → window_beyond (plain_words after) first count ++ plain_beyond after ≡ window_beyond (plain_words table') first₀ count₀ ++ plain_beyond table' → after ≡ unpacked_table bytes table
+  unpacked table' first₀ count₀ et ef es after first count inside beyond =
+      let ec : count₀ ≡ whole_blocks (length bytes) 64 = omega (arith, length-image bytes) in
+      unpacked-so after first count
+      (inside ∙ (λ i. copied (image_words bytes) (window_words (plain_words (et i)) (ef i) (ec i))))
+      (beyond ∙ (λ i. window_beyond (plain_words (et i)) (ef i) (ec i) ++ plain_beyond (et i)))
 
-    pub count-told : count_of (image_words bytes) (window_words (plain_words table') first₀ count₀) ≡ 8 * unpacked_blocks bytes table
-    count-told = (λ i. count_of (image_words bytes) (window_words (plain_words (et i)) (ef i) (ec i))) ∙ count_is
-
-    pub unpacked : (after : List ℕ) (first count : ℕ) → window_words (plain_words after) first count ≡ copied (image_words bytes) (window_words (plain_words table') first₀ count₀) → window_beyond (plain_words after) first count ++ plain_beyond after ≡ window_beyond (plain_words table') first₀ count₀ ++ plain_beyond table' → after ≡ unpacked_table bytes table
-    unpacked after first count inside beyond =
-        unpacked-so after first count
-        (inside ∙ (λ i. copied (image_words bytes) (window_words (plain_words (et i)) (ef i) (ec i))))
-        (beyond ∙ (λ i. window_beyond (plain_words (et i)) (ef i) (ec i) ++ plain_beyond (et i)))
-
-  pub answered : (words total : ℕ) → words ≡ 8 * unpacked_blocks bytes table → total ≡ length bytes → ◌≡◌ {A = Unpacked} (record { blocks = words / 8; words = words; trailing = total - 64 * (words / 8) }) (unpacked_answer bytes table)
-  answered words total ew et =
-      let eb : words / 8 ≡ unpacked_blocks bytes table = omega arith in
-      λ i. record { blocks = eb i; words = ew i; trailing = et i - 64 * eb i }
+pub ruleset unpacking = (length-image, length-plain, length-table_window, common_steps)

@@ -1,19 +1,21 @@
 // Frames of a buoy report: blocks of eight big-endian words, unpacked into a table of words.
 #![tactic(auto)]
 
-ghost use Rattle.std.specs.Prelude.{◌≡◌, Ok, MatchResult};
+ghost use Rattle.std.specs.Prelude.{◌≡◌, Ok, IsOk, IfOk};
 ghost use Rattle.frames.specs.Frames.{copied, count_of, unpacked_answer, unpacked_table};
 
 use fault::Fault;
 use memory::{Image, Memory, Plain, Window};
 
 // Copies word by word, up to the end of the smaller memory, and answers how many words were copied.
+#[tactic(auto, using(crate::proofs::Copies::copying))]
 pub fn copy<S: Memory, D: Memory>(from: &S, to: &mut D) -> Result<u64, Fault>
     ensures answer { result ≡ Ok (count_of (S.Memory.words from.now) (D.Memory.words to.old)) }
     ensures after { D.Memory.words to.new ≡ copied (S.Memory.words from.now) (D.Memory.words to.old) }
     ensures beyond { D.Memory.beyond to.new ≡ D.Memory.beyond to.old }
 {
     let count = 8 * from.size().min(to.size());
+    // by address: a memory lends no list of its words to go over
     for address in 0..count {
         let word = from.read(address)?;
         to.write(address, word)?;
@@ -31,8 +33,11 @@ pub struct Unpacked {
 
 // Unpacks the whole frames of a report into the front of a table, as many as there are and as the table has room for.
 // The table is given back beside what was done.
+#[tactic(auto, using(crate::proofs::Unpacks::unpacking))]
 pub fn unpack(report: &Image, table: Plain) -> Result<(Plain, Unpacked), Fault>
-    ensures { MatchResult result (λ done. (done.0.buffer.items ≡ unpacked_table report.now.buffer.items table.buffer.items) × (done.1 ≡ unpacked_answer report.now.buffer.items table.buffer.items)) (λ _. ⊥) }
+    ensures granted { IsOk result }
+    ensures table { IfOk result (λ done. done.0.buffer.items ≡ unpacked_table report.now.buffer.items table.buffer.items) }
+    ensures answer { IfOk result (λ done. done.1 ≡ unpacked_answer report.now.buffer.items table.buffer.items) }
 {
     let mut window = Window::over(table, 0, report.size());
     let words = copy(report, &mut window)?;

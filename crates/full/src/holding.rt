@@ -5,11 +5,23 @@ ghost use Rattle.full.specs.Held.{tokens_of};
 
 use book::Take;
 
-#[derive(Clone, Copy)]
+#[derive(Clone, Copy, PartialEq, Eq, PartialOrd, Ord)]
 pub(crate) enum Holding {
     Nothing,
     One,
     All,
+}
+
+// What a granted take leaves its thread with.
+impl From<Take> for Holding {
+    ghost from_gives = { λ take holding. tokens_of holding ≡ wanted take };
+
+    fn from(take: Take) -> Holding {
+        match take {
+            Take::Load => Holding::One,
+            Take::Store => Holding::All,
+        }
+    }
 }
 
 impl Holding {
@@ -23,37 +35,20 @@ impl Holding {
         }
     }
 
-    // What a granted take leaves its thread with.
-    pub(crate) fn after(take: Take) -> Holding
-        ensures { tokens_of result ≡ wanted take }
-    {
-        match take {
-            Take::Load => Holding::One,
-            Take::Store => Holding::All,
-        }
-    }
-
     // Whether its own thread may go on without taking more.
     pub(crate) fn suffices(self, take: Take) -> bool
         ensures { result ≡ nat_le (wanted take) (tokens_of self) }
     {
-        match (self, take) {
-            (Holding::All, _) => true,
-            (Holding::One, Take::Load) => true,
-            (Holding::One, Take::Store) => false,
-            (Holding::Nothing, _) => false,
-        }
+        self >= Holding::from(take)
     }
 
     // Whether it refuses the take to any other thread.
     pub(crate) fn bars(self, take: Take) -> bool
         ensures { result ≡ nat_le (barred_by take) (tokens_of self) }
     {
-        match (self, take) {
-            (Holding::All, _) => true,
-            (Holding::One, Take::Load) => false,
-            (Holding::One, Take::Store) => true,
-            (Holding::Nothing, _) => false,
+        match take {
+            Take::Load => self == Holding::All,
+            Take::Store => self != Holding::Nothing,
         }
     }
 }

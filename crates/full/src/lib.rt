@@ -1,16 +1,17 @@
 // The full book: a table of all holdings, sixteen threads by sixty-four blocks.
 #![tactic(auto)]
 
-ghost use Rattle.std.specs.Prelude.{◌≡◌, ◌+◌, ◌*◌, ◌<◌};
+ghost use Rattle.std.specs.Prelude.{◌≡◌};
 ghost use Rattle.book.specs.Holdings.{Lowest, is_in_the_way, blocks_held, cleared};
 ghost use Rattle.book.specs.Rules.{take_answer, after_take};
 ghost use Rattle.full.specs.Exact.{Exactly};
 ghost use Rattle.full.specs.Held.{held_in};
 ghost use Rattle.book.proofs.Kept.{sound_from};
 
-use book::{Book, Take, check_block, check_board, check_thread};
+use book::{BlockNumber, Book, Take, Thread, check_block, check_board, check_thread};
 use fault::Fault;
 use holding::Holding;
+use std::mem;
 pub use table::FullBook;
 
 mod holding;
@@ -19,71 +20,59 @@ mod table;
 impl FullBook {
     // A book in which nothing is held.
     pub fn new() -> FullBook
-        ensures { held_in result.cells ≡ (λ t b. 0) }
+        ensures { held_in result.rows ≡ (λ t b. 0) }
     {
         FullBook {
-            cells: [Holding::Nothing; 1024],
+            rows: [[Holding::Nothing; 64]; 16],
         }
     }
 
     // The lowest-numbered thread whose holding refuses the take.
-    fn in_the_way(&self, take: Take, thread: u64, block: u64) -> Option<u64>
-        requires { block < 64 }
-        ensures { Lowest (is_in_the_way take (held_in self.now.cells) thread block) 16 result }
+    fn in_the_way(&self, take: Take, thread: Thread, block: BlockNumber) -> Option<u64>
+        ensures { Lowest (is_in_the_way take (held_in self.now.rows) thread.number block.number) 16 result }
     {
-        for other in 0..16u64 {
-            if other != thread && self.cells[cell(other, block)].bars(take) {
-                return Some(other);
-            }
-        }
-        None
+        self.rows
+            .iter()
+            .enumerate()
+            .position(|(other, row)| other != thread.index() && row[block.index()].bars(take))
+            .map(|other| other as u64)
     }
 
     // A take of either kind. The thread's own holding is looked at first.
     fn take_for(&mut self, take: Take, thread: u64, block: u64) -> Result<(), Fault>
-        ensures answer { result ≡ take_answer take (held_in self.old.cells) thread block }
-        ensures after { held_in self.new.cells ≡ after_take take (held_in self.old.cells) thread block }
+        ensures answer { result ≡ take_answer take (held_in self.old.rows) thread block }
+        ensures after { held_in self.new.rows ≡ after_take take (held_in self.old.rows) thread block }
     {
-        check_thread(thread)?;
-        check_block(block)?;
-        let at = cell(thread, block);
-        if self.cells[at].suffices(take) {
+        let thread = check_thread(thread)?;
+        let block = check_block(block)?;
+        if self.rows[thread.index()][block.index()].suffices(take) {
             return Ok(());
         }
-        match self.in_the_way(take, thread, block) {
-            Some(other) => Err(take.refused_by(other)),
-            None => {
-                self.cells[at] = Holding::after(take);
-                Ok(())
-            }
+        if let Some(other) = self.in_the_way(take, thread, block) {
+            return Err(take.refused_by(other));
         }
+        self.rows[thread.index()][block.index()] = Holding::from(take);
+        Ok(())
     }
 
     // Empties the thread's row, and counts the blocks that it held tokens of.
-    fn clear(&mut self, thread: u64) -> u64
-        requires { thread < 16 }
-        ensures answer { result ≡ blocks_held (held_in self.old.cells) thread }
-        ensures after { held_in self.new.cells ≡ cleared (held_in self.old.cells) thread }
+    fn clear(&mut self, thread: Thread) -> u64
+        ensures answer { result ≡ blocks_held (held_in self.old.rows) thread.number }
+        ensures after { held_in self.new.rows ≡ cleared (held_in self.old.rows) thread.number }
     {
-        let mut given = 0;
-        for block in 0..64u64 {
-            let at = cell(thread, block);
-            if self.cells[at].tokens() > 0 {
-                given += 1;
-            }
-            self.cells[at] = Holding::Nothing;
-        }
-        given
+        let row = mem::replace(&mut self.rows[thread.index()], [Holding::Nothing; 64]);
+        row.iter().filter(|cell| cell.tokens() > 0).count() as u64
     }
 }
 
 impl Book for FullBook {
-    ghost holding = { λ k. held_in k.cells };
+    ghost holding = { λ k. held_in k.rows };
 
-    ghost moves = { λ k m l. Exactly (held_in k.cells) m (held_in l.cells) };
+    ghost moves = { λ k m l. Exactly (held_in k.rows) m (held_in l.rows) };
 
-    ghost sound = { λ k. sound_from (held_in k.cells) k.sound };
+    ghost sound = { λ k. sound_from (held_in k.rows) k.sound };
 
+    // Public calls take any number, so each checks its own first, in the order of the refusals.
     fn take_for_load(&mut self, thread: u64, block: u64) -> Result<(), Fault> {
         self.take_for(Take::Load, thread, block)
     }
@@ -93,33 +82,27 @@ impl Book for FullBook {
     }
 
     fn release(&mut self, thread: u64) -> Result<u64, Fault> {
-        check_thread(thread)?;
+        let thread = check_thread(thread)?;
         Ok(self.clear(thread))
     }
 
     fn held(&self, thread: u64, block: u64) -> Result<u64, Fault> {
-        check_thread(thread)?;
-        check_block(block)?;
-        Ok(self.cells[cell(thread, block)].tokens())
+        let thread = check_thread(thread)?;
+        let block = check_block(block)?;
+        Ok(self.rows[thread.index()][block.index()].tokens())
     }
 
     // The table does not say where a thread sits.
     fn seat(&mut self, thread: u64, board: u64) -> Result<(), Fault> {
         check_thread(thread)?;
-        check_board(board)
+        check_board(board)?;
+        Ok(())
     }
 
     // The table has no copies.
     fn drop_copy(&mut self, board: u64, block: u64) -> Result<(), Fault> {
         check_board(board)?;
-        check_block(block)
+        check_block(block)?;
+        Ok(())
     }
-}
-
-// A thread's holdings stand in a row.
-fn cell(thread: u64, block: u64) -> usize
-    requires { (thread < 16) × (block < 64) }
-    ensures { result ≡ 64 * thread + block }
-{
-    (64 * thread + block) as usize
 }

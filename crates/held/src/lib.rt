@@ -7,8 +7,8 @@
 
 ghost use Rattle.std.specs.Prelude.{◌≡◌};
 ghost use Rattle.held.specs.Begun.{begun_as};
-ghost use Rattle.store.specs.States.{state_of, begin_answer, begin_state, load_answer, load_state, store_answer, store_state, commit_state, abort_state, Answered, done_of, word_of, ended_of};
-ghost use Rattle.store.specs.Moved.{MovedBy, move_of};
+ghost use Rattle.store.specs.States.{state_of, begin_answer, load_answer, store_answer, Answered, done_of, word_of, ended_of};
+ghost use Rattle.store.specs.Moved.{Leaves};
 ghost use Rattle.store.specs.Reached.{Carries};
 ghost use Rattle.store.specs.declared.Call.TheVariants.{Begin as BeginCall, Load as LoadCall, Store as StoreCall, Commit as CommitCall, Abort as AbortCall};
 
@@ -25,8 +25,7 @@ impl HeldJob {
     // Begins a job on an idle thread, and holds it.
     pub fn begin<M: Memory, B: Book>(store: &mut Store<M, B>, thread: u64) -> Result<HeldJob, Fault>
         ensures answer { result ≡ begun_as thread (begin_answer (state_of M.Memory.words B.Book.holding store.old) thread) }
-        ensures after { state_of M.Memory.words B.Book.holding store.new ≡ begin_state (state_of M.Memory.words B.Book.holding store.old) thread }
-        ensures beyond { M.Memory.beyond store.new.memory ≡ M.Memory.beyond store.old.memory }
+        ensures leaves { Leaves M.Memory.words M.Memory.beyond B.Book.holding B.Book.moves store.old (BeginCall thread) (done_of (begin_answer (state_of M.Memory.words B.Book.holding store.old) thread)) store.new }
         ensures book { store.new.book ≡ store.old.book }
         ensures step { Carries (state_of M.Memory.words B.Book.holding store.old) (BeginCall thread) (done_of (begin_answer (state_of M.Memory.words B.Book.holding store.old) thread)) (state_of M.Memory.words B.Book.holding store.new) }
     {
@@ -48,9 +47,7 @@ impl HeldJob {
         address: u64,
     ) -> Result<u64, Fault>
         ensures answer { result ≡ load_answer (state_of M.Memory.words B.Book.holding store.old) self.now.thread address }
-        ensures after { state_of M.Memory.words B.Book.holding store.new ≡ load_state (state_of M.Memory.words B.Book.holding store.old) self.now.thread address }
-        ensures beyond { M.Memory.beyond store.new.memory ≡ M.Memory.beyond store.old.memory }
-        ensures own { MovedBy B.Book.moves store.old.book (move_of (LoadCall self.now.thread address) (word_of result)) store.new.book }
+        ensures leaves { Leaves M.Memory.words M.Memory.beyond B.Book.holding B.Book.moves store.old (LoadCall self.now.thread address) (word_of result) store.new }
         ensures step { Carries (state_of M.Memory.words B.Book.holding store.old) (LoadCall self.now.thread address) (word_of result) (state_of M.Memory.words B.Book.holding store.new) }
     {
         store.load(self.thread, address)
@@ -64,9 +61,7 @@ impl HeldJob {
         word: u64,
     ) -> Result<(), Fault>
         ensures answer { result ≡ store_answer (state_of M.Memory.words B.Book.holding store.old) self.now.thread address }
-        ensures after { state_of M.Memory.words B.Book.holding store.new ≡ store_state (state_of M.Memory.words B.Book.holding store.old) self.now.thread address word }
-        ensures beyond { M.Memory.beyond store.new.memory ≡ M.Memory.beyond store.old.memory }
-        ensures own { MovedBy B.Book.moves store.old.book (move_of (StoreCall self.now.thread address word) (done_of result)) store.new.book }
+        ensures leaves { Leaves M.Memory.words M.Memory.beyond B.Book.holding B.Book.moves store.old (StoreCall self.now.thread address word) (done_of result) store.new }
         ensures step { Carries (state_of M.Memory.words B.Book.holding store.old) (StoreCall self.now.thread address word) (done_of result) (state_of M.Memory.words B.Book.holding store.new) }
     {
         store.store(self.thread, address, word)
@@ -75,9 +70,7 @@ impl HeldJob {
     // Spends the held job by a commit, also where the store refuses it because the thread is idle by then.
     pub fn commit<M: Memory, B: Book>(self, store: &mut Store<M, B>) -> Result<(u64, u64), Fault>
         ensures answer { Answered (state_of M.Memory.words B.Book.holding store.old) (CommitCall self.thread) (ended_of result) }
-        ensures after { state_of M.Memory.words B.Book.holding store.new ≡ commit_state (state_of M.Memory.words B.Book.holding store.old) self.thread }
-        ensures beyond { M.Memory.beyond store.new.memory ≡ M.Memory.beyond store.old.memory }
-        ensures own { MovedBy B.Book.moves store.old.book (move_of (CommitCall self.thread) (ended_of result)) store.new.book }
+        ensures leaves { Leaves M.Memory.words M.Memory.beyond B.Book.holding B.Book.moves store.old (CommitCall self.thread) (ended_of result) store.new }
         ensures step { Carries (state_of M.Memory.words B.Book.holding store.old) (CommitCall self.thread) (ended_of result) (state_of M.Memory.words B.Book.holding store.new) }
     {
         let HeldJob { thread } = self;
@@ -87,9 +80,7 @@ impl HeldJob {
     // Spends the held job by an abort, also where the store refuses it because the thread is idle by then.
     pub fn abort<M: Memory, B: Book>(self, store: &mut Store<M, B>) -> Result<(u64, u64), Fault>
         ensures answer { Answered (state_of M.Memory.words B.Book.holding store.old) (AbortCall self.thread) (ended_of result) }
-        ensures after { state_of M.Memory.words B.Book.holding store.new ≡ abort_state (state_of M.Memory.words B.Book.holding store.old) self.thread }
-        ensures beyond { M.Memory.beyond store.new.memory ≡ M.Memory.beyond store.old.memory }
-        ensures own { MovedBy B.Book.moves store.old.book (move_of (AbortCall self.thread) (ended_of result)) store.new.book }
+        ensures leaves { Leaves M.Memory.words M.Memory.beyond B.Book.holding B.Book.moves store.old (AbortCall self.thread) (ended_of result) store.new }
         ensures step { Carries (state_of M.Memory.words B.Book.holding store.old) (AbortCall self.thread) (ended_of result) (state_of M.Memory.words B.Book.holding store.new) }
     {
         let HeldJob { thread } = self;

@@ -5,76 +5,73 @@ ghost use Rattle.marks.specs.Counts.{sum_of};
 ghost use Rattle.std.specs.Ordering.{MatchOrdering};
 
 use std::cmp::Ordering;
+use std::marker::PhantomData;
+
+// A count of tokens, on one side of a book.
+#[derive(Clone, Copy, PartialEq, Eq, Debug)]
+pub struct Count<Side> {
+    tokens: u64,
+    side: PhantomData<Side>,
+}
+
+// The side of the marks.
+#[derive(Clone, Copy, PartialEq, Eq, Debug)]
+pub struct Shown;
+
+// The side of the token logs.
+#[derive(Clone, Copy, PartialEq, Eq, Debug)]
+pub struct Logged;
 
 // Tokens that marks show as taken from a block.
-#[derive(Clone, Copy, PartialEq, Eq, Debug)]
-pub struct Debit(u64);
+pub type Debit = Count<Shown>;
 
-impl Debit {
-    pub(crate) fn new(count: u64) -> Self
-        ensures { result.0 ≡ count }
+// Tokens that a log records as taken by a thread.
+pub type Credit = Count<Logged>;
+
+impl<Side> Count<Side> {
+    pub fn new(tokens: u64) -> Self
+        ensures { result.tokens ≡ tokens }
     {
-        Debit(count)
+        Count {
+            tokens,
+            side: PhantomData,
+        }
     }
 
     pub fn tokens(self) -> u64
-        ensures { result ≡ self.0 }
+        ensures { result ≡ self.tokens }
     {
-        let Debit(tokens) = self;
+        let Self { tokens, .. } = self;
         tokens
     }
 
-    // The debit that two marks show together.
-    pub fn plus(self, other: Debit) -> Debit
-        ensures { result.0 ≡ sum_of self.0 other.0 }
+    // What two marks show together, or two records give; held at the largest 64-bit number.
+    pub fn plus(self, other: Self) -> Self
+        ensures { result.tokens ≡ sum_of self.tokens other.tokens }
     {
-        Debit(self.0.saturating_add(other.0))
+        Count::new(self.tokens.saturating_add(other.tokens))
     }
+}
 
-    // Whether the debit is as large as the credit: `==` compares a debit with a debit alone.
+impl Debit {
+    // Whether the debit is as large as the credit: `==` compares values of one type alone.
     pub fn equals(&self, other: &Credit) -> bool
-        ensures { IsTrue result ↔ (self.now.0 ≡ other.now.0) }
+        ensures { IsTrue result ↔ (self.now.tokens ≡ other.now.tokens) }
     {
-        self.0 == other.0
+        self.tokens == other.tokens
     }
 
-    // How the debit compares with the credit.
+    // How the debit compares with the credit: an Option, as PartialOrd answers, and never None.
     pub fn compares(&self, other: &Credit) -> Option<Ordering>
-        ensures { IsSomeAnd result (λ o. MatchOrdering o (self.now.0 < other.now.0) (self.now.0 ≡ other.now.0) (other.now.0 < self.now.0)) }
+        ensures { IsSomeAnd result (λ o. MatchOrdering o (self.now.tokens < other.now.tokens) (self.now.tokens ≡ other.now.tokens) (other.now.tokens < self.now.tokens)) }
     {
-        self.0.partial_cmp(&other.0)
+        self.tokens.partial_cmp(&other.tokens)
     }
 
     // The debit that is left when a thread releases its credit: 0 where the credit is larger.
     pub fn less(self, released: Credit) -> Debit
-        ensures { result.0 ≡ self.0 - released.0 }
+        ensures { result.tokens ≡ self.tokens - released.tokens }
     {
-        Debit(self.0.saturating_sub(released.0))
-    }
-}
-
-// Tokens that a log records as taken by a thread.
-#[derive(Clone, Copy, PartialEq, Eq, Debug)]
-pub struct Credit(u64);
-
-impl Credit {
-    pub fn new(count: u64) -> Self
-        ensures { result.0 ≡ count }
-    {
-        Credit(count)
-    }
-
-    pub fn tokens(self) -> u64
-        ensures { result ≡ self.0 }
-    {
-        let Credit(tokens) = self;
-        tokens
-    }
-
-    // The credit that two records give together.
-    pub fn plus(self, other: Credit) -> Credit
-        ensures { result.0 ≡ sum_of self.0 other.0 }
-    {
-        Credit(self.0.saturating_add(other.0))
+        Count::new(self.tokens.saturating_sub(released.tokens))
     }
 }

@@ -12,8 +12,8 @@ mod counts;
 mod rules;
 mod states;
 
-pub use counts::{Credit, Debit};
-pub use rules::{NO_COPY, copy_code};
+pub use counts::{Count, Credit, Debit, Logged, Shown};
+pub use rules::{NO_COPY, TOKENS, copy_code};
 pub use states::Metastate;
 
 // A metastate whose numbers are in range. There is no other mark.

@@ -14,7 +14,7 @@ use fault::{Fault, Layer, Refusal};
 pub const NO_COPY: u64 = 65535;
 
 // The tokens of a block, all of which a writer takes.
-const TOKENS: u64 = 64;
+pub const TOKENS: u64 = 64;
 
 const THREADS: u64 = 16;
 
@@ -37,6 +37,7 @@ impl Mark {
             Metastate::Reader(thread) => thread < THREADS,
             Metastate::Writer(thread) => thread < THREADS,
         };
+        // not bool::then: its closure is not told the range
         if in_range { Some(Mark { state }) } else { None }
     }
 
@@ -48,7 +49,7 @@ impl Mark {
 
     // What the mark shows as taken.
     pub fn debit(self) -> Debit
-        ensures { result.0 ≡ debit_of self.state }
+        ensures { result.tokens ≡ debit_of self.state }
     {
         match self.state {
             Metastate::Anonymous(count) => Debit::new(count),
@@ -76,8 +77,7 @@ impl Mark {
     {
         match self.state {
             Metastate::Writer(_) => (self, self),
-            Metastate::Anonymous(_) => (self, Mark::untouched()),
-            Metastate::Reader(_) => (self, Mark::untouched()),
+            Metastate::Anonymous(_) | Metastate::Reader(_) => (self, Mark::untouched()),
         }
     }
 
@@ -89,8 +89,7 @@ impl Mark {
         let sum = self.debit().plus(other.debit()).tokens();
         match (self.state, other.state) {
             (Metastate::Writer(x), Metastate::Writer(y)) if x == y => Ok(self),
-            (Metastate::Writer(_), _) => Err(apart(sum)),
-            (_, Metastate::Writer(_)) => Err(apart(sum)),
+            (Metastate::Writer(_), _) | (_, Metastate::Writer(_)) => Err(apart(sum)),
             (_, Metastate::Anonymous(0)) => Ok(self),
             (Metastate::Anonymous(0), _) => Ok(other),
             (_, _) => readers(sum),
@@ -102,28 +101,19 @@ impl Mark {
 pub fn copy_code(copy: Option<Mark>) -> u64
     ensures { result ≡ copy_code_of (state_in copy) }
 {
-    match copy {
-        Some(mark) => mark.code(),
-        None => NO_COPY,
-    }
+    copy.map_or(NO_COPY, Mark::code)
 }
 
 // Two marks that cannot stand for one block together.
 fn apart(sum: u64) -> Fault
     ensures { result ≡ record { layer = Marks; refusal = MarksApart sum } }
 {
-    Fault {
-        layer: Layer::Marks,
-        refusal: Refusal::MarksApart(sum),
-    }
+    Layer::Marks.refuses(Refusal::MarksApart(sum))
 }
 
 // Readers of two copies, counted together.
 fn readers(sum: u64) -> Result<Mark, Fault>
     ensures { fused_in result ≡ readers_of sum }
 {
-    match Mark::new(Metastate::Anonymous(sum)) {
-        Some(mark) => Ok(mark),
-        None => Err(apart(sum)),
-    }
+    Mark::new(Metastate::Anonymous(sum)).ok_or(apart(sum))
 }

@@ -1,5 +1,5 @@
 -- The words that a buffer holds, and what else lies in it.
-use Rattle.std.specs.Prelude.{ℕ, ◌+◌, ◌*◌, ◌/◌, ◌%◌, ◌^◌, cond, List, [], ◌∷◌, ◌++◌, map, length, take, drop, nat_lt, slice_index}
+use Rattle.std.specs.Prelude.{ℕ, ◌+◌, ◌*◌, ◌/◌, ◌%◌, ◌^◌, cond, List, [], ◌∷◌, ◌++◌, map, length, take, drop, nat_lt, slice_index, slice_set}
 use Rattle.std.specs.List.{range_with_len}
 use Rattle.std.specs.Int.Digits.{number_from_digits}
 use Rattle.memory.specs.Words.{whole_blocks}
@@ -10,6 +10,10 @@ plain_words buffer = take (8 * whole_blocks (length buffer) 8) buffer
 
 abbrev pub plain_beyond : List ℕ → List (List ℕ)
 plain_beyond buffer = drop (8 * whole_blocks (length buffer) 8) buffer ∷ []
+
+-- the buffer after a write of w to address a
+abbrev pub plain_after : List ℕ → ℕ → ℕ → List ℕ
+plain_after buffer a w = cond (nat_lt a (8 * whole_blocks (length buffer) 8)) (slice_set buffer a w) buffer
 
 -- the big-endian word in the eight bytes from i on: their number in base 256
 abbrev pub big_endian_word : List ℕ → ℕ → ℕ

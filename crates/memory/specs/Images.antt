@@ -2,18 +2,18 @@
 use Rattle.std.specs.Prelude.{◌≡◌, ℕ, ◌+◌, ◌-◌, ◌*◌, ◌^◌, ◌<◌, ◌≤◌, ◌≢◌, List, [], ◌∷◌, ◌++◌, length, take, drop, slice_index, slice_index_or, slice_set, refl}
 use Rattle.std.proofs.Common.{ap, sym, ◌∙◌, ⊎_elim, add-zero, zero-add, arith, lit<}
 use Rattle.std.specs.Int.Digits.{number_from_digits}
-use Rattle.std.proofs.lemmas.List.{length-append, length-take-le, length-drop, get_or_append_left, get_or-append_right, get_or-take, get_or-drop, get_or-set_same, get_or-set_other, length-set, ext_get_or}
+use Rattle.std.proofs.lemmas.List.{length-append, length-take-le, length-drop, get_or_append_left, get_or-append_right, get_or-take, get_or-drop, get_or-set_same, get_or-set_other, length-set, set_past, ext_get_or}
 use Rattle.std.proofs.lemmas.Bool.{cases_lt, cases_eq, cond-true, cond-false, lt-ltb, le-ltb}
 use Rattle.std.proofs.lemmas.List.FromFn.{length-map-range_with_len, get_or-map-range_with_len}
 use Rattle.memory.specs.Words.{Whole, whole_blocks}
 use Rattle.memory.specs.Buffers.{big_endian_word, word_bytes, overwritten, image_words, image_beyond, image_after}
-use Rattle.memory.specs.Fronts.{whole_from}
+use Rattle.memory.specs.Fronts.{whole_counted}
 
 pub length-image : (bytes : List ℕ) → length (image_words bytes) ≡ 8 * whole_blocks (length bytes) 64
 length-image bytes = length-map-range_with_len (λ a. big_endian_word bytes (8 * a)) 0 (8 * whole_blocks (length bytes) 64)
 
 pub whole_image : (bytes : List ℕ) → Whole (image_words bytes)
-whole_image bytes = whole_from (image_words bytes) (whole_blocks (length bytes) 64) (length-image bytes) (omega arith)
+whole_image bytes = whole_counted (image_words bytes) (length bytes) 64 (length-image bytes)
 
 pub get_or-image : (bytes : List ℕ) (a : ℕ) → a < 8 * whole_blocks (length bytes) 64 → slice_index (image_words bytes) a ≡ big_endian_word bytes (8 * a)
 get_or-image bytes a lt = get_or-map-range_with_len (λ k. big_endian_word bytes (8 * k)) 0 (8 * whole_blocks (length bytes) 64) a a 0 lt (omega arith)
@@ -52,7 +52,7 @@ module _ (xs : List ℕ) (i : ℕ) (ys : List ℕ) (room : i + length ys ≤ len
       (λ k lt. get_or-drop n _ k 0 ∙ get_or-overwritten-behind (n + k) (omega arith) ∙ sym (get_or-drop n xs k 0))
 
 -- the eight bytes decide the word
-same_word : (bs cs : List ℕ) (i k : ℕ) → ((j : ℕ) → j < 8 → slice_index bs (i + j) ≡ slice_index cs (k + j)) → big_endian_word bs i ≡ big_endian_word cs k
+pub same_word : (bs cs : List ℕ) (i k : ℕ) → ((j : ℕ) → j < 8 → slice_index bs (i + j) ≡ slice_index cs (k + j)) → big_endian_word bs i ≡ big_endian_word cs k
 same_word bs cs i k h =
     let first : slice_index_or bs i 0 ≡ slice_index_or cs k 0 = rw (add-zero, add-zero) at (h 0 (lit< tt)) in
     omega (arith, first, h 1 (lit< tt), h 2 (lit< tt), h 3 (lit< tt), h 4 (lit< tt), h 5 (lit< tt), h 6 (lit< tt), h 7 (lit< tt))
@@ -101,3 +101,22 @@ after_within bytes a w lt = sym (cond-true _ _ _ (lt-ltb a (8 * whole_blocks (le
 
 pub after_past : (bytes : List ℕ) (a w : ℕ) → 8 * whole_blocks (length bytes) 64 ≤ a → bytes ≡ image_after bytes a w
 after_past bytes a w le = sym (cond-false _ _ _ (le-ltb a (8 * whole_blocks (length bytes) 64) le))
+
+-- a write to any address: past the blocks it alters nothing
+module _ (bytes : List ℕ) (a w : ℕ) where
+  pub image_after-past : length (image_words bytes) ≤ a → image_after bytes a w ≡ bytes
+  image_after-past le = sym (after_past bytes a w (omega (arith, length-image bytes)))
+
+  pub image_words-after : w < 2 ^ 64 → image_words (image_after bytes a w) ≡ slice_set (image_words bytes) a w
+  image_words-after fits =
+      ⊎_elim
+      (λ lt. image_set bytes a w lt fits _ (sym (after_within bytes a w lt)))
+      (λ le. ap image_words (sym (after_past bytes a w le)) ∙ sym (set_past _ _ _ (omega (arith, length-image bytes))))
+      (cases_lt a (8 * whole_blocks (length bytes) 64))
+
+  pub image_beyond-after : w < 2 ^ 64 → image_beyond (image_after bytes a w) ≡ image_beyond bytes
+  image_beyond-after fits =
+      ⊎_elim
+      (λ lt. image_beyond_set bytes a w lt fits _ (sym (after_within bytes a w lt)))
+      (λ le. ap image_beyond (sym (after_past bytes a w le)))
+      (cases_lt a (8 * whole_blocks (length bytes) 64))

@@ -1,13 +1,15 @@
 // The memory under a store: a table of 64-bit words in blocks of eight.
 #![tactic(auto)]
 
+mod buffer;
 mod image;
 mod plain;
 mod window;
 
-ghost use Rattle.std.specs.Prelude.{◌≡◌, ℕ, ◌*◌, ◌<◌, ◌≤◌, List, length, slice_set};
-ghost use Rattle.memory.specs.Words.{Whole, read_answer, write_answer, whole_blocks, address_fault};
+ghost use Rattle.std.specs.Prelude.{◌≡◌, ℕ, ◌*◌, ◌≤◌, cond, nat_lt, List, length, slice_set};
+ghost use Rattle.memory.specs.Words.{Whole, read_answer, write_answer, address_fault};
 
+pub use buffer::Buffer;
 use fault::{Fault, Layer, Refusal};
 pub use image::Image;
 pub use plain::Plain;
@@ -40,20 +42,12 @@ pub trait Memory {
     ghost whole: { (m : Self) → Whole (words m) };
 }
 
-// The whole blocks in a buffer of this many items, each block having so many of them: at most 64.
-fn blocks_in(items: u64, block: u64) -> u64
-    requires { 0 < block }
-    ensures { result ≡ whole_blocks items block }
+// Refuses an address past the words of so many blocks.
+fn check(address: u64, blocks: u64) -> Result<(), Fault>
+    ensures { result ≡ cond (nat_lt address (8 * blocks)) (Ok tt) (Err (address_fault address)) }
 {
-    (items / block).min(64)
-}
-
-// The refusal of an address past the last word.
-fn out_of_range(address: u64) -> Fault
-    ensures { result ≡ address_fault address }
-{
-    Fault {
-        layer: Layer::Memory,
-        refusal: Refusal::AddressOutOfRange(address),
+    if address / 8 < blocks {
+        return Ok(());
     }
+    Err(Layer::Memory.refuses(Refusal::AddressOutOfRange(address)))
 }

@@ -1,63 +1,38 @@
-// Plain words: a memory over a buffer of words.
-ghost use Rattle.std.specs.Prelude.{◌≡◌};
-ghost use Rattle.memory.specs.Buffers.{plain_words, plain_beyond};
-ghost use Rattle.memory.specs.Fronts.{whole_plain};
+// Plain words: each item of the buffer is a word.
+ghost use Rattle.std.proofs.Common.{lit<};
+ghost use Rattle.memory.specs.Buffers.{plain_words, plain_beyond, plain_after};
+ghost use Rattle.memory.specs.Fronts.{length-plain, plain_words-after, plain_beyond-after, plain_after-past};
 
-use super::Memory;
-use fault::Fault;
+use crate::buffer::{Buffer, Item};
 
-// The whole blocks at the front of the buffer, at most 64; the words behind them are never touched.
-#[derive(Drop)]
-pub struct Plain {
-    buffer: Vec<u64>,
-}
+pub type Plain = Buffer<u64>;
 
-impl Plain {
-    pub fn over(buffer: Vec<u64>) -> Plain
-        ensures { result.buffer ≡ buffer }
-    {
-        Plain { buffer }
+impl Item for u64 {
+    const PER_BLOCK: usize = 8;
+
+    ghost PER_BLOCK = { 8 };
+
+    ghost words = { plain_words };
+
+    ghost beyond = { plain_beyond };
+
+    ghost after = { plain_after };
+
+    ghost nonzero = { lit< tt };
+
+    ghost counted = { length-plain };
+
+    ghost words_after = { λ buffer a w _. plain_words-after buffer a w };
+
+    ghost beyond_after = { λ buffer a w _. plain_beyond-after buffer a w };
+
+    ghost after_past = { plain_after-past };
+
+    fn word_at(buffer: &[u64], address: usize) -> u64 {
+        buffer[address]
     }
 
-    // The whole buffer, with what lies behind the blocks.
-    pub fn buffer(&self) -> &[u64]
-        ensures { result.now ≡ self.now.buffer.items }
-    {
-        self.buffer.as_slice()
-    }
-
-    // The buffer, given back.
-    pub fn into_buffer(self) -> Vec<u64>
-        ensures { result ≡ self.buffer }
-    {
-        let Plain { buffer } = self;
-        buffer
-    }
-}
-
-impl Memory for Plain {
-    ghost words = { λ m. plain_words m.buffer.items };
-
-    ghost beyond = { λ m. plain_beyond m.buffer.items };
-
-    ghost whole = { λ m. whole_plain m.buffer.items };
-
-    fn size(&self) -> u64 {
-        super::blocks_in(self.buffer.len() as u64, 8)
-    }
-
-    fn read(&self, address: u64) -> Result<u64, Fault> {
-        if address < 8 * self.size() {
-            return Ok(self.buffer[address as usize]);
-        }
-        Err(super::out_of_range(address))
-    }
-
-    fn write(&mut self, address: u64, word: u64) -> Result<(), Fault> {
-        if address >= 8 * self.size() {
-            return Err(super::out_of_range(address));
-        }
-        self.buffer[address as usize] = word;
-        Ok(())
+    fn put_word(buffer: &mut [u64], address: usize, word: u64) {
+        buffer[address] = word;
     }
 }

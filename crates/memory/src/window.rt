@@ -33,15 +33,11 @@ impl<M: Memory> Window<M> {
     pub fn into_below(self) -> M
         ensures { result ≡ self.below }
     {
-        let Window {
-            below,
-            first: _,
-            count: _,
-        } = self;
+        let Self { below, .. } = self;
         below
     }
 
-    // The first block of the memory below that the window shows.
+    // The first block of the memory below that the window shows, with the law of that memory for the callers' proofs.
     fn start(&self) -> u64
         ensures answer { result ≡ start_of (M.Memory.words self.now.below) self.now.first }
         ensures limit { result ≤ 64 }
@@ -59,21 +55,17 @@ impl<M: Memory> Memory for Window<M> {
     ghost whole = { λ m. whole_window (M.Memory.words m.below) (M.Memory.whole m.below) m.first m.count };
 
     fn size(&self) -> u64 {
-        let remaining = self.below.size() - self.start();
-        self.count.min(remaining)
+        self.count.min(self.below.size() - self.start())
     }
 
     fn read(&self, address: u64) -> Result<u64, Fault> {
-        if address >= 8 * self.size() {
-            return Err(super::out_of_range(address));
-        }
+        super::check(address, self.size())?;
         self.below.read(8 * self.start() + address)
     }
 
+    #[tactic(auto, using(crate::proofs::Windows::window_writes))]
     fn write(&mut self, address: u64, word: u64) -> Result<(), Fault> {
-        if address >= 8 * self.size() {
-            return Err(super::out_of_range(address));
-        }
+        super::check(address, self.size())?;
         let at = 8 * self.start() + address;
         self.below.write(at, word)
     }

@@ -1,16 +1,10 @@
 -- The latest record with a given key, in a list of records that has the oldest first.
-use Rattle.std.specs.Prelude.{◌≡◌, ℕ, cond, List, [], ◌∷◌, ◌++◌, Some, None, Option, ◌==◌, ◌≢◌}
-use Rattle.std.specs.List.{AllByRecursion}
+use Rattle.std.specs.Prelude.{◌≡◌, ℕ, List, ◌∷◌, ◌++◌, reverse, Some, None, Option, ◌==◌, ◌≢◌}
+use Rattle.std.specs.List.{AllByRecursion, find}
 
--- the first choice if there is one, otherwise the second
-abbrev pub or_else : {R : Type 0} → Option R → Option R → Option R
-or_else (Some r) other = Some r
-or_else None other = other
-
--- a later record with the key goes before the oldest one
+-- the first from the end that has the key
 unfoldable pub latest_of : {R : Type 0} → (R → ℕ) → ℕ → List R → Option R
-latest_of keyed k [] = None
-latest_of keyed k (r ∷ rs) = or_else (latest_of keyed k rs) (cond (keyed r == k) (Some r) None)
+latest_of keyed k rs = find (λ r. keyed r == k) (reverse rs)
 
 -- no record has the key
 abbrev pub Lacks : {R : Type 0} → (R → ℕ) → ℕ → List R → Type 0

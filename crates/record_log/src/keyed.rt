@@ -15,11 +15,9 @@ pub fn latest<R: Keyed + Copy>(records: &[R], key: u64) -> Option<R>
     ensures value { result ≡ latest_of R.Keyed.keyed key records.now }
     ensures means { IsLatest R.Keyed.keyed key records.now result }
 {
-    'search: for i in (0..records.len()).rev() {
-        let record = records[i];
-        if record.key() == key {
-            return Some(record);
-        }
-    }
-    None
+    records
+        .iter()
+        .rev()
+        .find(|record| record.key() == key)
+        .copied()
 }

@@ -15,6 +15,8 @@ pub use keyed::{Keyed, latest};
 
 // A log of at most N records. The first `count` items are its records, oldest first; the items
 // after them are fillers and mean nothing.
+// An array with its count: the kit's ArrayVec is not Copy and asks more of R, and a Vec allocates.
+#[derive(Copy)]
 pub struct Log<R, const N: usize> {
     items: [R; N],
     count: usize,
@@ -22,8 +24,7 @@ pub struct Log<R, const N: usize> {
     ghost fits: { count ≤ N },
 }
 
-impl<R: Copy, const N: usize> Copy for Log<R, N> {}
-
+// By hand: a derive of Clone and Copy is refused over a type parameter with ghost fields; over a const parameter alone it is not.
 impl<R: Copy, const N: usize> Clone for Log<R, N> {
     ghost is_clone = { λ log copy. copy ≡ log };
 

@@ -21,9 +21,7 @@ impl<R: Keyed + Copy, const N: usize> Log<R, N> {
         ensures value { result.now ≡ records_of self.now }
         ensures fits { length result.now ≤ N }
     {
-        let count = self.count;
-        let all = &self.items[..];
-        &all[0..count]
+        &self.items[..self.count]
     }
 
     // How many records there are.
@@ -49,9 +47,8 @@ impl<R: Keyed + Copy, const N: usize> Log<R, N> {
         if self.count == N {
             return Err(Full);
         }
-        let count = self.count;
-        self.items[count] = added;
-        self.count = count + 1;
+        self.items[self.count] = added;
+        self.count += 1;
         Ok(())
     }
 

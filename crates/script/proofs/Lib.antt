@@ -3,4 +3,5 @@ mod Fronting
 mod Parsing
 mod Reading
 mod Rowing
-mod Spelling
+mod Splitting
+mod Trying

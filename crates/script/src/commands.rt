@@ -1,5 +1,7 @@
 // Commands: the call that a line asks for, or why it asks for none.
 ghost use Rattle.std.specs.Prelude.{◌≡◌, ◌<◌};
+ghost use Rattle.std.specs.Option.{ok_or};
+ghost use Rattle.fault.specs.declared.Refusal.TheVariants.{UnknownCommand};
 ghost use Rattle.script.specs.Commands.{call_of, command_of, commanded, fields_fit, number_at, parse_of, refuse};
 ghost use Rattle.script.specs.Pieces.{fields_of};
 
@@ -20,19 +22,34 @@ pub(crate) enum Command {
     Drop,
 }
 
+impl TryFrom<char> for Command {
+    type Error = Fault;
+
+    ghost try_from_gives = { λ letter answer. answer ≡ ok_or (command_of letter) (refuse UnknownCommand) };
+
+    fn try_from(letter: char) -> Result<Command, Fault> {
+        match letter {
+            'b' => Ok(Command::Begin),
+            'l' => Ok(Command::Load),
+            's' => Ok(Command::Store),
+            'c' => Ok(Command::Commit),
+            'a' => Ok(Command::Abort),
+            'm' => Ok(Command::Seat),
+            'd' => Ok(Command::Drop),
+            _ => Err(Layer::Text.refuses(Refusal::UnknownCommand)),
+        }
+    }
+}
+
 impl Command {
     // Whether a line with so many fields, the letter included, fits the command.
     fn takes(self, fields: u64) -> bool
         ensures { result ≡ fields_fit self fields }
     {
         match self {
-            Command::Begin => fields == 2,
-            Command::Load => fields == 3,
+            Command::Begin | Command::Commit | Command::Abort => fields == 2,
+            Command::Load | Command::Seat | Command::Drop => fields == 3,
             Command::Store => fields == 4,
-            Command::Commit => fields == 2,
-            Command::Abort => fields == 2,
-            Command::Seat => fields == 3,
-            Command::Drop => fields == 3,
         }
     }
 }
@@ -44,8 +61,7 @@ pub fn parse(line: &[u8]) -> Result<Call, Fault>
     match line {
         [letter, b' ', rest @ ..] => call_named(*letter as char, line, 1 + count_fields(rest)),
         [letter] => call_named(*letter as char, line, 1),
-        [] => Err(refused(Refusal::UnknownCommand)),
-        [_, _, ..] => Err(refused(Refusal::UnknownCommand)),
+        [] | [_, _, ..] => Err(Layer::Text.refuses(Refusal::UnknownCommand)),
     }
 }
 
@@ -53,29 +69,11 @@ pub fn parse(line: &[u8]) -> Result<Call, Fault>
 fn call_named(letter: char, line: &[u8], found: u64) -> Result<Call, Fault>
     ensures { result ≡ commanded (command_of letter) found (fields_of line.now) }
 {
-    let Some(command) = named(letter) else {
-        return Err(refused(Refusal::UnknownCommand));
-    };
+    let command = Command::try_from(letter)?;
     if !command.takes(found) {
-        return Err(refused(Refusal::WrongFieldCount(found)));
+        return Err(Layer::Text.refuses(Refusal::WrongFieldCount(found)));
     }
     numbers_of(command, line)
-}
-
-// The command of a letter.
-fn named(letter: char) -> Option<Command>
-    ensures { result ≡ command_of letter }
-{
-    match letter {
-        'b' => Some(Command::Begin),
-        'l' => Some(Command::Load),
-        's' => Some(Command::Store),
-        'c' => Some(Command::Commit),
-        'a' => Some(Command::Abort),
-        'm' => Some(Command::Seat),
-        'd' => Some(Command::Drop),
-        _ => None,
-    }
 }
 
 // The call of a command, with the numbers in the fields behind its letter.
@@ -98,24 +96,16 @@ fn numbers_of(command: Command, line: &[u8]) -> Result<Call, Fault>
 }
 
 // The number in the field at a position.
+// A rule of the project: `let .. else` takes each number field.
 fn number_at(line: &[u8], position: u64) -> Result<u64, Fault>
     requires { 0 < position }
     ensures { result ≡ number_at (fields_of line.now) position }
 {
     let Some(word) = word_at(line, position) else {
-        return Err(refused(Refusal::NotANumber(position)));
+        return Err(Layer::Text.refuses(Refusal::NotANumber(position)));
     };
     let Some(n) = number(word.bytes()) else {
-        return Err(refused(Refusal::NotANumber(word.position())));
+        return Err(Layer::Text.refuses(Refusal::NotANumber(word.position())));
     };
     Ok(n)
-}
-
-fn refused(refusal: Refusal) -> Fault
-    ensures { result ≡ refuse refusal }
-{
-    Fault {
-        layer: Layer::Text,
-        refusal,
-    }
 }

@@ -7,6 +7,7 @@ mod decimal;
 mod lines;
 mod rows;
 mod words;
+mod writing;
 
 pub use commands::parse;
 pub use decimal::{number, put_number};

@@ -1,115 +1,80 @@
 // Rows of a report: what became of a line.
-ghost use Rattle.std.specs.Prelude.{◌≡◌, ◌+◌, ◌≤◌, [], ◌∷◌, length, Some, Ok};
-ghost use Rattle.script.specs.Rows.{Within, answer_text, fault_text, outcome_text, row_of, spaced};
-ghost use Rattle.script.specs.Writing.{Adds, fronted, fronts};
+// They are not printed by `Display`: `write!` says nothing of when a write fails, and a row has to fit.
+ghost use Rattle.std.specs.Prelude.{◌≡◌, ◌+◌, ◌≤◌, [], ◌∷◌, ◌++◌, length, Some, Ok, decimal};
+ghost use Rattle.arrayvec.specs.ArrayString.{array_string_len};
+ghost use Rattle.script.specs.Rows.{Within, outcome_text, row_of};
+ghost use Rattle.script.specs.Writing.{fronted, fronts};
 
-use super::decimal::{add_number, width};
+use super::writing::put_text;
+use arrayvec::ArrayString;
 use fault::Fault;
+use itoa::Buffer;
 use store::Answer;
+
+// The most bytes of a row: a number of 20 digits, " no ", a letter, two values behind a space each, byte 10.
+const ROW_BYTES: usize = 20 + 5 + 2 * 21 + 1;
 
 // Writes the row of a line at the front of the buffer, and answers its length.
 // Where it does not fit, nothing is written.
+// `Within outcome` stays a premise of the bounds here and below: an outcome in range has no type of its own.
 pub fn put_row(out: &mut [u8], line: u64, outcome: Result<Answer, Fault>) -> Option<usize>
     ensures answer { result ≡ fronts out.old (row_of line outcome) }
     ensures written { out.new ≡ fronted out.old (row_of line outcome) }
     ensures short { Within outcome → length (row_of line outcome) ≤ 64 }
     ensures room { Within outcome → 64 ≤ length out.old → result ≡ Some (length (row_of line outcome)) }
 {
-    if out.len() < width(line) + outcome_length(outcome) + 1 {
-        return None;
-    }
-    let at = add_number(out, 0, line);
-    let at = add_outcome(out, at, outcome);
-    Some(add_bytes(out, at, b"\n"))
+    put_text(out, &row_text(line, outcome))
 }
 
-fn outcome_length(outcome: Result<Answer, Fault>) -> usize
-    ensures count { result ≡ length (outcome_text outcome) }
-    ensures few { result ≤ 45 }
-    ensures within { Within outcome → result ≤ 29 }
+// The row of a line.
+fn row_text(line: u64, outcome: Result<Answer, Fault>) -> ArrayString<ROW_BYTES>
+    ensures text { result.bytes ≡ row_of line outcome }
+    ensures short { Within outcome → length result.bytes ≤ 64 }
+{
+    let mut row = ArrayString::new();
+    row.push_str(Buffer::new().format(line));
+    add_outcome(&mut row, outcome);
+    row.push('\n');
+    row
+}
+
+// Adds what became of a line: " ok" and the values of the answer, or " no", the layer's letter, the refusal's number and its place.
+// One text grows through all, hence the requires: with a text for each outcome and value the station takes an eighth more instructions (tried).
+fn add_outcome(row: &mut ArrayString<ROW_BYTES>, outcome: Result<Answer, Fault>)
+    requires { array_string_len row.old ≤ 20 }
+    ensures text { row.new.bytes ≡ row.old.bytes ++ outcome_text outcome }
+    ensures few { array_string_len row.new ≤ array_string_len row.old + 47 }
+    ensures short { Within outcome → array_string_len row.new ≤ array_string_len row.old + 29 }
 {
     match outcome {
-        Ok(answer) => answer_length(answer),
-        Err(fault) => fault_length(fault),
+        Ok(answer) => {
+            row.push_str(" ok");
+            match answer {
+                Answer::Done => {}
+                Answer::Word(word) => add_value(row, word),
+                Answer::Ended(records, figure) => {
+                    add_value(row, records);
+                    add_value(row, figure);
+                }
+            }
+        }
+        Err(fault) => {
+            row.push_str(" no ");
+            row.push(fault.letter());
+            add_value(row, fault.number());
+            add_value(row, fault.place());
+        }
     }
 }
 
-fn answer_length(answer: Answer) -> usize
-    ensures count { result ≡ length (answer_text answer) }
-    ensures few { result ≤ 45 }
-    ensures within { Within (Ok answer) → result ≤ 29 }
+// Adds a value behind a space.
+#[inline]
+fn add_value(row: &mut ArrayString<ROW_BYTES>, value: u64)
+    requires { array_string_len row.old ≤ 47 }
+    ensures text { row.new.bytes ≡ row.old.bytes ++ 32 ∷ decimal value }
+    ensures count { array_string_len row.new ≡ array_string_len row.old + 1 + length (decimal value) }
+    ensures few { length (decimal value) ≤ 20 }
 {
-    match answer {
-        Answer::Done => 3,
-        Answer::Word(word) => 4 + width(word),
-        Answer::Ended(records, figure) => 5 + width(records) + width(figure),
-    }
-}
-
-fn fault_length(fault: Fault) -> usize
-    ensures count { result ≡ length (fault_text fault) }
-    ensures few { result ≤ 29 }
-{
-    7 + width(fault.number()) + width(fault.place())
-}
-
-// Writes what became of a line from `at` on, and answers where that ends.
-fn add_outcome(out: &mut [u8], at: usize, outcome: Result<Answer, Fault>) -> usize
-    requires { at + length (outcome_text outcome) ≤ length out.old }
-    ensures { Adds out.old at (outcome_text outcome) out.new result }
-{
-    match outcome {
-        Ok(answer) => add_answer(out, at, answer),
-        Err(fault) => add_fault(out, at, fault),
-    }
-}
-
-// Writes " ok" and the values of the answer.
-fn add_answer(out: &mut [u8], at: usize, answer: Answer) -> usize
-    requires { at + length (answer_text answer) ≤ length out.old }
-    ensures { Adds out.old at (answer_text answer) out.new result }
-{
-    let at = add_bytes(out, at, b" ok");
-    match answer {
-        Answer::Done => at,
-        Answer::Word(word) => add_value(out, at, word),
-        Answer::Ended(records, figure) => add_values(out, at, records, figure),
-    }
-}
-
-// Writes " no", the layer's letter, the refusal's number and its place.
-fn add_fault(out: &mut [u8], at: usize, fault: Fault) -> usize
-    requires { at + length (fault_text fault) ≤ length out.old }
-    ensures { Adds out.old at (fault_text fault) out.new result }
-{
-    let at = add_bytes(out, at, b" no ");
-    let at = add_bytes(out, at, &[fault.letter() as u8]);
-    add_values(out, at, fault.number(), fault.place())
-}
-
-// Writes two values, each behind a space.
-fn add_values(out: &mut [u8], at: usize, first: u64, second: u64) -> usize
-    requires { at + length (spaced (first ∷ second ∷ [])) ≤ length out.old }
-    ensures { Adds out.old at (spaced (first ∷ second ∷ [])) out.new result }
-{
-    let at = add_value(out, at, first);
-    add_value(out, at, second)
-}
-
-// Writes a value behind a space.
-fn add_value(out: &mut [u8], at: usize, value: u64) -> usize
-    requires { at + length (spaced (value ∷ [])) ≤ length out.old }
-    ensures { Adds out.old at (spaced (value ∷ [])) out.new result }
-{
-    let at = add_bytes(out, at, b" ");
-    add_number(out, at, value)
-}
-
-fn add_bytes(out: &mut [u8], at: usize, bytes: &[u8]) -> usize
-    requires { at + length bytes.now ≤ length out.old }
-    ensures { Adds out.old at bytes.now out.new result }
-{
-    let end = at + bytes.len();
-    out[at..end].copy_from_slice(bytes);
-    end
+    row.push(' ');
+    row.push_str(Buffer::new().format(value));
 }

@@ -1,11 +1,11 @@
 // Fields of a line: what stands between its spaces.
-ghost use Rattle.std.specs.Prelude.{◌≡◌, length, ◌==◌};
+ghost use Rattle.std.specs.Prelude.{◌≡◌, length, ◌==◌, count_by, slice_get};
+ghost use Rattle.std.specs.Option.{option_map};
 ghost use Rattle.script.specs.Pieces.{FieldLaw, fields_of};
 ghost use Rattle.script.specs.Words.{FieldAt, bytes_of, leads, position_of};
 
-use super::lines::split_at_byte;
-
 // A field: bytes borrowed from its line, and its position there, counted from 1.
+// A rule of the project: words are an enum of borrowed bytes with their position.
 #[derive(Clone, Copy)]
 pub enum Word<'a> {
     // the first field, which names the command
@@ -19,8 +19,7 @@ impl<'a> Word<'a> {
         ensures { result.now ≡ bytes_of self.entry }
     {
         match self {
-            Word::Letter(bytes, _) => bytes,
-            Word::Number(bytes, _) => bytes,
+            Word::Letter(bytes, _) | Word::Number(bytes, _) => bytes,
         }
     }
 
@@ -28,31 +27,26 @@ impl<'a> Word<'a> {
         ensures { result ≡ position_of self.entry }
     {
         match self {
-            Word::Letter(_, position) => position,
-            Word::Number(_, position) => position,
+            Word::Letter(_, position) | Word::Number(_, position) => position,
         }
     }
 }
 
 // The field at a position, or none where the line has no such field.
+#[tactic(auto, using(std::proofs::lemmas::Option::slice_get_cases, std::proofs::lemmas::Grind::common_steps))]
 pub fn word_at(line: &[u8], position: u64) -> Option<Word<'_>>
     ensures { FieldAt line.now position result }
 {
-    if position == 0 {
-        return None;
-    }
-    let mut rest = line;
-    let mut at: u64 = 1;
-    'fields: while at < position {
-        let (field, behind) = split_at_byte(rest, b' ');
-        if field.len() == rest.len() {
-            return None;
-        }
-        rest = behind;
-        at += 1;
-    }
-    let (field, _) = split_at_byte(rest, b' ');
+    let before = position.checked_sub(1)?;
+    let field = field_behind(line, before as usize)?;
     Some(placed(field, position))
+}
+
+// The field behind so many others.
+fn field_behind(line: &[u8], others: usize) -> Option<&[u8]>
+    ensures { option_map (λ field. field.now) result ≡ slice_get (fields_of line.now) others }
+{
+    line.split(|byte| *byte == b' ').nth(others)
 }
 
 // The word that a field at a position is.
@@ -68,15 +62,16 @@ fn placed(field: &[u8], position: u64) -> Word<'_>
 }
 
 // How many fields the line has: one more than spaces.
+#[tactic(auto, using(crate::proofs::Cutting::fields_count))]
 pub fn count_fields(line: &[u8]) -> u64
     ensures count { result ≡ length (fields_of line.now) }
     ensures law { FieldLaw line.now }
 {
-    let mut count: u64 = 1;
-    'bytes: for byte in line {
-        if *byte == b' ' {
-            count += 1;
-        }
-    }
-    count
+    1 + count_spaces(line) as u64
+}
+
+fn count_spaces(line: &[u8]) -> usize
+    ensures { result ≡ count_by (λ byte. byte == 32) line.now }
+{
+    line.iter().filter(|byte| **byte == b' ').count()
 }

@@ -20,8 +20,5 @@ fn main(rt: HostRuntime) -> io::Result<()> {
     let mut report = vec![in rt.alloc(); 0u8; REPORT_BYTES]?;
     let table = Plain::over(vec![in rt.alloc(); 0; TABLE_WORDS]?);
     let (_store, ran) = run_fresh(table, BoardBook::new(), &script, &mut report);
-    match report.as_slice().get(0..ran.fill) {
-        Some(rows) => rt.stdout().write_all(rows),
-        None => Ok(()),
-    }
+    rt.stdout().write_all(&report[..ran.fill])
 }

@@ -10,14 +10,14 @@ length-alone ws [] = refl
 length-alone ws (loads a ∷ j) = length-alone ws j
 length-alone ws (stores a w ∷ j) = length-set (alone ws j) a w ∙ length-alone ws j
 
-pub length-serial : (m : List ℕ) (es : List (Event Access)) → length (serial_words m es) ≡ length m
+pub length-serial_words : (m : List ℕ) (es : List (Event Access)) → length (serial_words m es) ≡ length m
 unfolding serial_words
-length-serial m [] = refl
-length-serial m (opens t ∷ es) = length-serial m es
-length-serial m (accesses t x ∷ es) = length-serial m es
-length-serial m (ends t true ∷ es) = length-alone (serial_words m es) (job_of es t) ∙ length-serial m es
-length-serial m (ends t false ∷ es) = length-serial m es
-length-serial m (nothing ∷ es) = length-serial m es
+length-serial_words m [] = refl
+length-serial_words m (opens t ∷ es) = length-serial_words m es
+length-serial_words m (accesses t x ∷ es) = length-serial_words m es
+length-serial_words m (ends t true ∷ es) = length-alone (serial_words m es) (job_of es t) ∙ length-serial_words m es
+length-serial_words m (ends t false ∷ es) = length-serial_words m es
+length-serial_words m (nothing ∷ es) = length-serial_words m es
 
 -- whether there is a word
 pub some_is : (o : Option ℕ) → is_some o ≡ true → (w : ℕ) × (o ≡ Some w)
@@ -46,36 +46,36 @@ unfolding latest_store
 latest_none a = refl
 
 -- within the words: the job's latest store, or else the word found
-pub read_alone : (ws : List ℕ) (j : Job) (a : ℕ) → a < length ws → get_or (alone ws j) a 0 ≡ unwrap_or (latest_store j a) (get_or ws a 0)
+pub get_or-alone : (ws : List ℕ) (j : Job) (a : ℕ) → a < length ws → get_or (alone ws j) a 0 ≡ unwrap_or (latest_store j a) (get_or ws a 0)
 unfolding alone latest_store
-read_alone ws [] a l = refl
-read_alone ws (loads b ∷ j) a l = read_alone ws j a l
-read_alone ws (stores b w ∷ j) a l =
+get_or-alone ws [] a l = refl
+get_or-alone ws (loads b ∷ j) a l = get_or-alone ws j a l
+get_or-alone ws (stores b w ∷ j) a l =
     ⊎_elim
     (λ (is : a ≡ b). rw is (get_or-set_same (alone ws j) b w 0 (omega (arith, length-alone ws j, is)) ∙ ap (λ o. unwrap_or o (get_or ws b 0)) (sym (latest_same b w j))))
-    (λ (ne : a ≡ b → ⊥). get_or-set_other (alone ws j) b a w 0 ne ∙ read_alone ws j a l ∙ ap (λ o. unwrap_or o (get_or ws a 0)) (sym (latest_other b w j a ne)))
+    (λ (ne : a ≡ b → ⊥). get_or-set_other (alone ws j) b a w 0 ne ∙ get_or-alone ws j a l ∙ ap (λ o. unwrap_or o (get_or ws a 0)) (sym (latest_other b w j a ne)))
     (cases_eq a b)
 
 -- past the words there is nothing to read
-pub past_alone : (ws : List ℕ) (j : Job) (a : ℕ) → length ws ≤ a → get_or (alone ws j) a 0 ≡ get_or ws a 0
-past_alone ws j a l = get_or_past (alone ws j) a 0 (omega (arith, length-alone ws j)) ∙ sym (get_or_past ws a 0 l)
+pub get_or-alone_past : (ws : List ℕ) (j : Job) (a : ℕ) → length ws ≤ a → get_or (alone ws j) a 0 ≡ get_or ws a 0
+get_or-alone_past ws j a l = get_or_past (alone ws j) a 0 (omega (arith, length-alone ws j)) ∙ sym (get_or_past ws a 0 l)
 
 -- where the job stored nothing the word is the one found
-pub alone-unstored : (ws : List ℕ) (j : Job) (a : ℕ) → latest_store j a ≡ None → get_or (alone ws j) a 0 ≡ get_or ws a 0
-alone-unstored ws j a e =
+pub get_or-alone_unstored : (ws : List ℕ) (j : Job) (a : ℕ) → latest_store j a ≡ None → get_or (alone ws j) a 0 ≡ get_or ws a 0
+get_or-alone_unstored ws j a e =
     ⊎_elim
-    (λ (l : a < length ws). read_alone ws j a l ∙ ap (λ o. unwrap_or o (get_or ws a 0)) e)
-    (past_alone ws j a)
+    (λ (l : a < length ws). get_or-alone ws j a l ∙ ap (λ o. unwrap_or o (get_or ws a 0)) e)
+    (get_or-alone_past ws j a)
     (cases_lt a (length ws))
 
 -- where it stored, the word is its latest, whatever was found
-pub alone-stored : (ws : List ℕ) (j : Job) (a w : ℕ) → a < length ws → latest_store j a ≡ Some w → get_or (alone ws j) a 0 ≡ w
-alone-stored ws j a w l e = read_alone ws j a l ∙ ap (λ o. unwrap_or o (get_or ws a 0)) e
+pub get_or-alone_stored : (ws : List ℕ) (j : Job) (a w : ℕ) → a < length ws → latest_store j a ≡ Some w → get_or (alone ws j) a 0 ≡ w
+get_or-alone_stored ws j a w l e = get_or-alone ws j a l ∙ ap (λ o. unwrap_or o (get_or ws a 0)) e
 
 -- words alike at an address are alike there afterwards
-pub alone-same : (ws vs : List ℕ) (j : Job) (a : ℕ) → length ws ≡ length vs → get_or ws a 0 ≡ get_or vs a 0 → get_or (alone ws j) a 0 ≡ get_or (alone vs j) a 0
-alone-same ws vs j a n e =
+pub get_or-alone_same : (ws vs : List ℕ) (j : Job) (a : ℕ) → length ws ≡ length vs → get_or ws a 0 ≡ get_or vs a 0 → get_or (alone ws j) a 0 ≡ get_or (alone vs j) a 0
+get_or-alone_same ws vs j a n e =
     ⊎_elim
-    (λ (l : a < length ws). read_alone ws j a l ∙ ap (unwrap_or (latest_store j a)) e ∙ sym (read_alone vs j a (omega arith)))
-    (λ (l : length ws ≤ a). past_alone ws j a l ∙ e ∙ sym (past_alone vs j a (omega arith)))
+    (λ (l : a < length ws). get_or-alone ws j a l ∙ ap (unwrap_or (latest_store j a)) e ∙ sym (get_or-alone vs j a (omega arith)))
+    (λ (l : length ws ≤ a). get_or-alone_past ws j a l ∙ e ∙ sym (get_or-alone_past vs j a (omega arith)))
     (cases_lt a (length ws))

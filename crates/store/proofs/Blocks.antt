@@ -62,8 +62,8 @@ none_from None never = refl
 pub unstored_block : (j : Job) (a : ℕ) → stored_in j (block_of a) ≡ false → latest_store j a ≡ None
 unstored_block j a e = none_from (latest_store j a) (λ w is. both_ways (stored_in j (block_of a)) e (stored_block j a w is))
 
-pub untouched-block : (j : Job) (b : ℕ) → touched j b ≡ false → stored_in j b ≡ false
-untouched-block j b e = ⊎_elim (λ (y : stored_in j b ≡ true). absurd (both_ways (touched j b) e (stored_touched j b y))) (λ (n : stored_in j b ≡ false). n) (cases_Bool (stored_in j b))
+pub untouched_block : (j : Job) (b : ℕ) → touched j b ≡ false → stored_in j b ≡ false
+untouched_block j b e = ⊎_elim (λ (y : stored_in j b ≡ true). absurd (both_ways (touched j b) e (stored_touched j b y))) (λ (n : stored_in j b ≡ false). n) (cases_Bool (stored_in j b))
 
 -- jobs whose holdings a sound book has
 module _ (H : Holdings) (jobs : ℕ → Job) (sound : Sound H) (held : (t b : ℕ) → t < 16 → H t b ≡ holding_of (jobs t) b) where
@@ -108,15 +108,15 @@ barred_store : (o : Option ℕ) → unless_barred Store o ≡ unless_held StoreC
 barred_store (Some u) = refl
 barred_store None = refl
 
-way-load : (v : ℕ) (n p q : Bool) → v ≡ cond p 64 (cond q 1 0) → (n && leb 64 v) ≡ (n && p)
-way-load v n true q e = rw e refl
-way-load v n false true e = rw e refl
-way-load v n false false e = rw e refl
+way_load : (v : ℕ) (n p q : Bool) → v ≡ cond p 64 (cond q 1 0) → (n && leb 64 v) ≡ (n && p)
+way_load v n true q e = rw e refl
+way_load v n false true e = rw e refl
+way_load v n false false e = rw e refl
 
-way-store : (v : ℕ) (n p q : Bool) → (p ≡ true → q ≡ true) → v ≡ cond p 64 (cond q 1 0) → (n && leb 1 v) ≡ (n && q)
-way-store v n true q f e = let g = f refl in rw (e, g) refl
-way-store v n false true f e = rw e refl
-way-store v n false false f e = rw e refl
+way_store : (v : ℕ) (n p q : Bool) → (p ≡ true → q ≡ true) → v ≡ cond p 64 (cond q 1 0) → (n && leb 1 v) ≡ (n && q)
+way_store v n true q f e = let g = f refl in rw (e, g) refl
+way_store v n false true f e = rw e refl
+way_store v n false false f e = rw e refl
 
 module _ (H : Holdings) (es : List (Event Access)) (sound : Sound H) (held : (t b : ℕ) → t < 16 → H t b ≡ holding_of (job_of es t) b) (t b : ℕ) (l : t < 16) (m : b < 64) where
   -- where t's holding suffices for a load, no other stored
@@ -141,19 +141,19 @@ module _ (H : Holdings) (es : List (Event Access)) (sound : Sound H) (held : (t 
       all_held false false e = absurd (let bad : ⊥ = omega arith in bad)
 
   -- the book refuses exactly what the history refuses
-  pub load_conflict-same : take_answer Load H t b ≡ load_conflict_rule es t b
-  load_conflict-same = rw (lt-ltb t 16 l, lt-ltb b 64 m) (go (leb 1 (H t b)) refl)
+  pub take_answer-load : take_answer Load H t b ≡ load_conflict_rule es t b
+  take_answer-load = rw (lt-ltb t 16 l, lt-ltb b 64 m) (go (leb 1 (H t b)) refl)
     where
       go : (p : Bool) → leb 1 (H t b) ≡ p → cond p granted (unless_barred Load (lowest_in_the_way Load H t b)) ≡ load_conflict_rule es t b
       go true e = sym (ap (unless_held LoadConflict) (lowest-only (stored_by_other es t b) 16 None (clear_load (leb-true 1 (H t b) e))))
-      go false e = barred_load (lowest_in_the_way Load H t b) ∙ ap (unless_held LoadConflict) (first_same (is_in_the_way Load H t b) (stored_by_other es t b) 16 (λ u k. way-load (H u b) (not (eqb u t)) (stored_in (job_of es u) b) (touched (job_of es u) b) (held u b k)))
+      go false e = barred_load (lowest_in_the_way Load H t b) ∙ ap (unless_held LoadConflict) (first_same (is_in_the_way Load H t b) (stored_by_other es t b) 16 (λ u k. way_load (H u b) (not (eqb u t)) (stored_in (job_of es u) b) (touched (job_of es u) b) (held u b k)))
 
-  pub store_conflict-same : take_answer Store H t b ≡ store_conflict_rule es t b
-  store_conflict-same = rw (lt-ltb t 16 l, lt-ltb b 64 m) (go (leb 64 (H t b)) refl)
+  pub take_answer-store : take_answer Store H t b ≡ store_conflict_rule es t b
+  take_answer-store = rw (lt-ltb t 16 l, lt-ltb b 64 m) (go (leb 64 (H t b)) refl)
     where
       go : (p : Bool) → leb 64 (H t b) ≡ p → cond p granted (unless_barred Store (lowest_in_the_way Store H t b)) ≡ store_conflict_rule es t b
       go true e = sym (ap (unless_held StoreConflict) (lowest-only (touched_by_other es t b) 16 None (clear_store (leb-true 64 (H t b) e))))
-      go false e = barred_store (lowest_in_the_way Store H t b) ∙ ap (unless_held StoreConflict) (first_same (is_in_the_way Store H t b) (touched_by_other es t b) 16 (λ u k. way-store (H u b) (not (eqb u t)) (stored_in (job_of es u) b) (touched (job_of es u) b) (stored_touched (job_of es u) b) (held u b k)))
+      go false e = barred_store (lowest_in_the_way Store H t b) ∙ ap (unless_held StoreConflict) (first_same (is_in_the_way Store H t b) (touched_by_other es t b) 16 (λ u k. way_store (H u b) (not (eqb u t)) (stored_in (job_of es u) b) (touched (job_of es u) b) (stored_touched (job_of es u) b) (held u b k)))
 
 unheld_none : (why : ℕ → Refusal) (o : Option ℕ) → unless_held why o ≡ allowed → o ≡ None
 unheld_none why (Some u) e = let z : ◌≡◌ {A = ℕ} 0 1 = cc in absurd (let bad : ⊥ = omega arith in bad)
@@ -171,8 +171,8 @@ pub nobody_touched : (es : List (Event Access)) (t b : ℕ) → store_conflict_r
 nobody_touched es t b e u l ne = other_false u t (touched (job_of es u) b) ne (lowest-at (touched_by_other es t b) 16 (unheld_none StoreConflict (first_below (touched_by_other es t b) 16) e) u l)
 
 -- a take alters no other thread's holdings
-pub take-other : (k : Take) (H : Holdings) (t b u c : ℕ) → (u ≡ t → ⊥) → after_take k H t b u c ≡ H u c
-take-other k H t b u c ne = go (is_ok (take_answer k H t b)) (leb (wanted k) (H t b))
+pub after_take-other : (k : Take) (H : Holdings) (t b u c : ℕ) → (u ≡ t → ⊥) → after_take k H t b u c ≡ H u c
+after_take-other k H t b u c ne = go (is_ok (take_answer k H t b)) (leb (wanted k) (H t b))
   where
     go : (p q : Bool) → cond p (cond q H (put H t b (wanted k))) H u c ≡ H u c
     go true true = refl
@@ -180,18 +180,18 @@ take-other k H t b u c ne = go (is_ok (take_answer k H t b)) (leb (wanted k) (H 
     go false q = refl
 
 -- after a granted load the book has what the longer job holds
-pub take-load : (H : Holdings) (j : Job) (t a c : ℕ) → ((b : ℕ) → H t b ≡ holding_of j b) → take_answer Load H t (block_of a) ≡ granted → after_take Load H t (block_of a) t c ≡ holding_of (loads a ∷ j) c
+pub after_take-load : (H : Holdings) (j : Job) (t a c : ℕ) → ((b : ℕ) → H t b ≡ holding_of j b) → take_answer Load H t (block_of a) ≡ granted → after_take Load H t (block_of a) t c ≡ holding_of (loads a ∷ j) c
 unfolding stored_in touched
-take-load H j t a c held e = rw (ap is_ok e) (go (leb 1 (H t (block_of a))) refl)
+after_take-load H j t a c held e = rw (ap is_ok e) (go (leb 1 (H t (block_of a))) refl)
   where
     go : (q : Bool) → leb 1 (H t (block_of a)) ≡ q → cond q H (put H t (block_of a) 1) t c ≡ holding_of (loads a ∷ j) c
     go true f = let g = held c in let k = held (block_of a) in grind (arith, nat_tests)
     go false f = let g = held c in let k = held (block_of a) in grind (arith, nat_tests)
 
 -- and after a granted store
-pub take-store : (H : Holdings) (j : Job) (t a w c : ℕ) → ((b : ℕ) → H t b ≡ holding_of j b) → take_answer Store H t (block_of a) ≡ granted → after_take Store H t (block_of a) t c ≡ holding_of (stores a w ∷ j) c
+pub after_take-store : (H : Holdings) (j : Job) (t a w c : ℕ) → ((b : ℕ) → H t b ≡ holding_of j b) → take_answer Store H t (block_of a) ≡ granted → after_take Store H t (block_of a) t c ≡ holding_of (stores a w ∷ j) c
 unfolding stored_in touched
-take-store H j t a w c held e = rw (ap is_ok e) (go (leb 64 (H t (block_of a))) refl)
+after_take-store H j t a w c held e = rw (ap is_ok e) (go (leb 64 (H t (block_of a))) refl)
   where
     go : (q : Bool) → leb 64 (H t (block_of a)) ≡ q → cond q H (put H t (block_of a) 64) t c ≡ holding_of (stores a w ∷ j) c
     go true f = let g = held c in let k = held (block_of a) in grind (arith, nat_tests)

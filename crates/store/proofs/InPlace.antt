@@ -4,7 +4,7 @@ use Rattle.std.proofs.lemmas.Bool.{cases_eq}
 use Rattle.store.specs.States.{State, block_of}
 use Rattle.store.specs.Histories.{History, events, job_of, alone, serial_words, latest_store, stored_in}
 use Rattle.store.specs.Reached.{Reached}
-use Rattle.store.proofs.Alone.{length-serial, alone-stored, alone-unstored}
+use Rattle.store.proofs.Alone.{length-serial_words, get_or-alone_stored, get_or-alone_unstored}
 use Rattle.store.proofs.Blocks.{unstored_block}
 
 module _ (m : List ℕ) (h : History) (s : State) (reached : Reached m h s) (t a : ℕ) (inside : a < length m) (others : (u : ℕ) → u < 16 → (u ≡ t → ⊥) → stored_in (job_of (events h) u) (block_of a) ≡ false) where
@@ -19,9 +19,9 @@ module _ (m : List ℕ) (h : History) (s : State) (reached : Reached m h s) (t a
       (cases_eq u t))
 
   -- and in any case the word that t's job gets when it is run alone
-  pub own-there : t < 16 → get_or s.words a 0 ≡ get_or (alone (serial_words m (events h)) (job_of (events h) t)) a 0
-  own-there l = go (latest_store (job_of (events h) t) a) refl
+  pub own_there : t < 16 → get_or s.words a 0 ≡ get_or (alone (serial_words m (events h)) (job_of (events h) t)) a 0
+  own_there l = go (latest_store (job_of (events h) t) a) refl
     where
       go : (o : Option ℕ) → latest_store (job_of (events h) t) a ≡ o → get_or s.words a 0 ≡ get_or (alone (serial_words m (events h)) (job_of (events h) t)) a 0
-      go (Some w) e = reached.stored t a w l inside e ∙ sym (alone-stored (serial_words m (events h)) (job_of (events h) t) a w (omega (arith, length-serial m (events h))) e)
-      go None e = serial_there e ∙ sym (alone-unstored (serial_words m (events h)) (job_of (events h) t) a e)
+      go (Some w) e = reached.stored t a w l inside e ∙ sym (get_or-alone_stored (serial_words m (events h)) (job_of (events h) t) a w (omega (arith, length-serial_words m (events h))) e)
+      go None e = serial_there e ∙ sym (get_or-alone_unstored (serial_words m (events h)) (job_of (events h) t) a e)

@@ -6,7 +6,7 @@ pub mod Loads
 pub mod Judged
 pub mod InPlace
 pub mod Ended
-pub mod StepRefused
+pub mod StepNothing
 pub mod StepBegin
 pub mod StepLoad
 pub mod StepStore
@@ -16,7 +16,6 @@ pub mod Step
 pub mod Start
 pub mod Conflicts
 pub mod Promised
-pub mod PutBack
 pub mod Fresh
 pub mod Replays
 pub mod Tokens

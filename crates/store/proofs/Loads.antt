@@ -3,7 +3,7 @@ use Rattle.std.proofs.Common.{◌≡◌, ℕ, true, eqb, List, [], ◌∷◌, ma
 use Rattle.std.proofs.lemmas.Bool.{eq-eqb, or_left, or_right}
 use Rattle.store.specs.States.{block_of}
 use Rattle.store.specs.Histories.{Access, loads, stores, Job, Seen, touched, AgreesAt, Agrees}
-use Rattle.store.proofs.Alone.{alone-same}
+use Rattle.store.proofs.Alone.{get_or-alone_same}
 use Rattle.store.proofs.Blocks.{touched-load, touched-store}
 
 -- one access more touches what was touched
@@ -12,7 +12,7 @@ still_touched (loads a) j b e = touched-load a j b ∙ or_right (eqb (block_of a
 still_touched (stores a w) j b e = touched-store a w j b ∙ or_right (eqb (block_of a) b) (touched j b) e
 
 agrees_at : (ws vs : List ℕ) (x : Access) (w : ℕ) (j : Job) → length ws ≡ length vs → ((a : ℕ) → touched (x ∷ j) (block_of a) ≡ true → get_or ws a 0 ≡ get_or vs a 0) → AgreesAt ws x w j → AgreesAt vs x w j
-agrees_at ws vs (loads a) w j n same e = e ∙ alone-same ws vs j a n (same a (touched-load a j (block_of a) ∙ or_left (eqb (block_of a) (block_of a)) (touched j (block_of a)) (eq-eqb (block_of a) (block_of a) refl)))
+agrees_at ws vs (loads a) w j n same e = e ∙ get_or-alone_same ws vs j a n (same a (touched-load a j (block_of a) ∙ or_left (eqb (block_of a) (block_of a)) (touched j (block_of a)) (eq-eqb (block_of a) (block_of a) refl)))
 agrees_at ws vs (stores a v) w j n same e = tt
 
 -- words alike in every block that the job touched

@@ -14,14 +14,14 @@ use Rattle.store.proofs.Loads.{agrees_none}
 
 module _ (m : List ℕ) (h : History) (s : State) (reached : Reached m h s) where
   -- no thread has a number above 15
-  idle-above : (t : ℕ) → 16 ≤ t → is_some (open_job (events h) t) ≡ false
-  idle-above t l = ap is_some (reached.above t l)
+  idle_above : (t : ℕ) → 16 ≤ t → is_some (open_job (events h) t) ≡ false
+  idle_above t l = ap is_some (reached.above t l)
 
   in_place : (a t w : ℕ) → a < length m → latest_store (job_of (events h) t) a ≡ Some w → get_or s.words a 0 ≡ w
   in_place a t w i e =
       ⊎_elim
       (λ (l : t < 16). reached.stored t a w l i e)
-      (λ (l : 16 ≤ t). let f = job_none (events h) t (idle-above t l) in let g = latest_none a in cc)
+      (λ (l : 16 ≤ t). let f = job_none (events h) t (idle_above t l) in let g = latest_none a in cc)
       (cases_lt t 16)
 
   serial_then : (a : ℕ) → a < length m → NoOtherWord m h a → get_or s.words a 0 ≡ get_or (serial_words m (events h)) a 0
@@ -38,7 +38,7 @@ module _ (m : List ℕ) (h : History) (s : State) (reached : Reached m h s) wher
   open_loads t =
       ⊎_elim
       (λ (l : t < 16). reached.open_loads t l)
-      (λ (l : 16 ≤ t). subst (Agrees (serial_words m (events h))) (sym (job_none (sightings h) t (forget_some h t ∙ idle-above t l))) (agrees_none (serial_words m (events h))))
+      (λ (l : 16 ≤ t). subst (Agrees (serial_words m (events h))) (sym (job_none (sightings h) t (forget_some h t ∙ idle_above t l))) (agrees_none (serial_words m (events h))))
       (cases_lt t 16)
 
   pub promised : Promised m h s

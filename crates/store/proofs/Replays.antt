@@ -6,7 +6,7 @@ use Rattle.book.specs.Holdings.{Holdings}
 use Rattle.book.specs.Moves.{Move}
 use Rattle.store.specs.States.{state_of}
 use Rattle.store.specs.Histories.{History, Told}
-use Rattle.store.specs.Moved.{Releases, MovedBy, move_of}
+use Rattle.store.specs.Moved.{Releases, Leaves}
 use Rattle.store.specs.Reached.{Reached, Carries}
 use Rattle.store.specs.Promises.{Travelled, start, onward, slot_of, Replayed}
 use Rattle.store.specs.declared.Answer.{Answer}
@@ -42,9 +42,9 @@ module _ {M B : Type 0} (words : M → List ℕ) (beyond : M → List (List ℕ)
         let none : i + 0 ≡ i = omega arith in
         sym (get_or-drop i now 0 d ∙ ap (λ k. get_or now k d) none) ∙ ap (λ l. get_or l 0 d) rest ∙ get_or-drop i before 0 d ∙ ap (λ k. get_or before k d) none
 
-    pub sofar-more : Sofar first before now i store → Carries (state_of words holding store) (get_or now i d).call r (state_of words holding store') → beyond store'.memory ≡ beyond store.memory → MovedBy R store.book (move_of (get_or now i d).call r) store'.book → Sofar first before (set now i record { call = (get_or now i d).call; answer = Some r }) (i + 1) store'
+    pub sofar_more : Sofar first before now i store → Leaves words beyond holding R store (get_or now i d).call r store' → Carries (state_of words holding store) (get_or now i d).call r (state_of words holding store') → Sofar first before (set now i record { call = (get_or now i d).call; answer = Some r }) (i + 1) store'
     unfolding made
-    sofar-more far carries kept moved =
+    sofar_more far leaves carries =
         let h = far.history in
         let lt' : i < length before = omega arith in
         let under : i < i + 1 = omega arith in
@@ -60,8 +60,8 @@ module _ {M B : Type 0} (words : M → List ℕ) (beyond : M → List (List ℕ)
               ∙ sym (map_push call_in (take i before) (get_or before i d))
               ∙ ap (map call_in) (sym (take_more before i d lt'));
           reached = carries (words first.memory) h far.reached;
-          untouched = kept ∙ far.untouched;
-          travelled = onward h made store.book store'.book far.travelled record { holds = far.reached.held; moved = moved };
+          untouched = leaves.untouched ∙ far.untouched;
+          travelled = onward h made store.book store'.book far.travelled record { holds = far.reached.held; moved = leaves.moved };
         }
 
   pub sofar_all : (memory : M) (book : B) (first : Store M B) (before now : List Turn) (i : ℕ) (store : Store M B) → first.memory ≡ memory → Releases R book 16 first.book → length now ≤ i → length now ≡ length before → Sofar first before now i store → Replayed words beyond holding R memory book before now store

@@ -19,13 +19,13 @@ use Rattle.store.specs.declared.Answer.{Answer}
 use Rattle.store.specs.declared.Answer.TheVariants.{Done}
 use Rattle.store.specs.declared.Call.TheVariants.{Store}
 use Rattle.store.proofs.Alone.{latest_same, latest_other}
-use Rattle.store.proofs.Blocks.{block_below, stored_block, stored_touched, untouched-block, store_conflict-same, nobody_touched, take-other, take-store}
+use Rattle.store.proofs.Blocks.{block_below, stored_block, stored_touched, untouched_block, take_answer-store, nobody_touched, after_take-other, after_take-store}
 use Rattle.store.proofs.InPlace.{serial_there}
 use Rattle.store.proofs.Jobs.{open_accesses, open_accesses_other, job_accesses_same, job_accesses_other, by_accesses, forget_some}
 use Rattle.store.proofs.Judged.{entry_same, entry_other, judge_open, open_by}
 use Rattle.store.proofs.Loads.{agrees_more}
-use Rattle.store.proofs.StepRefused.{step-refused}
-use Rattle.store.proofs.Undo.{logged-stored, noted-store}
+use Rattle.store.proofs.StepNothing.{step_refused}
+use Rattle.store.proofs.Undo.{logged_in-stored, noted-stores}
 
 -- there is room for one address more, or the job stored there before
 abbrev room : Job → ℕ → Bool
@@ -49,14 +49,14 @@ store_way m es t a = go (ltb t 16) (is_some (open_job es t)) (ltb a (length m)) 
 
 module _ (m : List ℕ) (h : History) (s : State) (sound : Sound s.holds) (whole : Whole s.words) (reached : Reached m h s) (t a : ℕ) where
   take_same : t < 16 → a < length m → store_take s.holds t (block_of a) ≡ store_conflict_rule (events h) t (block_of a)
-  take_same l k = store_conflict-same s.holds (events h) sound reached.held t (block_of a) l (block_below a (length m) k (omega (arith, reached.size)))
+  take_same l k = take_answer-store s.holds (events h) sound reached.held t (block_of a) l (block_below a (length m) k (omega (arith, reached.size)))
 
-  room-same : t < 16 → room_of s.table t a ≡ room_rule (events h) t a
-  room-same l =
+  room_same : t < 16 → room_of s.table t a ≡ room_rule (events h) t a
+  room_same l =
       cond-true (ltb t 16) (room_in (entry_at s.table t).undo a) (refused (ThreadOutOfRange t)) (lt-ltb t 16 l)
       ∙ ap (λ us. room_in us a) (reached.logged t l)
       ∙ ap (λ n. cond (ltb n 64 || logged_in (map (record_of (serial_words m (events h))) (stored_addresses (job_of (events h) t))) a) allowed (refused (UndoLogFull a))) (length-map (stored_addresses (job_of (events h) t)) (record_of (serial_words m (events h))))
-      ∙ ap (λ q. cond (ltb (length (stored_addresses (job_of (events h) t))) 64 || q) allowed (refused (UndoLogFull a))) (logged-stored (serial_words m (events h)) (job_of (events h) t) a)
+      ∙ ap (λ q. cond (ltb (length (stored_addresses (job_of (events h) t))) 64 || q) allowed (refused (UndoLogFull a))) (logged_in-stored (serial_words m (events h)) (job_of (events h) t) a)
 
   -- the store answers by the rule
   pub store_same : store_answer s t a ≡ store_rule m (events h) t a
@@ -70,7 +70,7 @@ module _ (m : List ℕ) (h : History) (s : State) (sound : Sound s.holds) (whole
       go true false r e₁ e₂ = refl
       go true true false e₁ e₂ = refl
       go true true true e₁ e₂ =
-          ap (λ v. and_then v (store_take s.holds t (block_of a))) (room-same (ltb-true t 16 e₁))
+          ap (λ v. and_then v (store_take s.holds t (block_of a))) (room_same (ltb-true t 16 e₁))
           ∙ ap (and_then (room_rule (events h) t a)) (take_same (ltb-true t 16 e₁) (ltb-true a (length m) e₂))
 
   module _ (w : ℕ) (l : t < 16) (opened : is_some (open_job (events h) t) ≡ true) (k : a < length m) (roomy : room (job_of (events h) t) a ≡ true) (clear : store_conflict_rule (events h) t (block_of a) ≡ allowed) where
@@ -78,8 +78,8 @@ module _ (m : List ℕ) (h : History) (s : State) (sound : Sound s.holds) (whole
     abbrev entry : View
     entry = noted_in (entry_at s.table t) a (get_or s.words a 0)
 
-    stored-open : (u : ℕ) → u < 16 → (entry_at (set s.table t entry) u).is_open ≡ is_some (open_job (accesses t (stores a w) ∷ events h) u)
-    stored-open u n =
+    stored_open : (u : ℕ) → u < 16 → (entry_at (set s.table t entry) u).is_open ≡ is_some (open_job (accesses t (stores a w) ∷ events h) u)
+    stored_open u n =
         ⊎_elim
         (λ (is : t ≡ u). subst (λ v. (entry_at (set s.table t entry) v).is_open ≡ is_some (open_job (events h) v)) is (ap (λ v. v.is_open) (entry_same s.table t entry reached.threads l) ∙ reached.open? t l))
         (λ (ne : t ≡ u → ⊥). ap (λ v. v.is_open) (entry_other s.table t entry u ne) ∙ reached.open? u n)
@@ -92,15 +92,15 @@ module _ (m : List ℕ) (h : History) (s : State) (sound : Sound s.holds) (whole
         both_ways (touched (job_of (events h) u) (block_of a)) (nobody_touched (events h) t (block_of a) clear u n (λ i. ne (sym i)))
         (stored_touched (job_of (events h) u) (block_of a) (stored_block (job_of (events h) u) a v (subst (λ c. latest_store (job_of (events h) u) c ≡ Some v) is e)))
 
-    stored-own : (b v : ℕ) → b < length m → latest_store (stores a w ∷ job_of (events h) t) b ≡ Some v → get_or (set s.words a w) b 0 ≡ v
-    stored-own b v i e =
+    stored_own : (b v : ℕ) → b < length m → latest_store (stores a w ∷ job_of (events h) t) b ≡ Some v → get_or (set s.words a w) b 0 ≡ v
+    stored_own b v i e =
         ⊎_elim
         (λ (is : b ≡ a). let f = get_or-set_same s.words a w 0 (omega (arith, reached.size)) in let g = latest_same a w (job_of (events h) t) in cc)
         (λ (ne : b ≡ a → ⊥). get_or-set_other s.words a b w 0 ne ∙ reached.stored t b v l i (sym (latest_other a w (job_of (events h) t) b ne) ∙ e))
         (cases_eq b a)
 
-    stored-serial : (b : ℕ) → b < length m → ((u : ℕ) → u < 16 → latest_store (job_of (accesses t (stores a w) ∷ events h) u) b ≡ None) → get_or (set s.words a w) b 0 ≡ get_or (serial_words m (events h)) b 0
-    stored-serial b i none =
+    stored_serial : (b : ℕ) → b < length m → ((u : ℕ) → u < 16 → latest_store (job_of (accesses t (stores a w) ∷ events h) u) b ≡ None) → get_or (set s.words a w) b 0 ≡ get_or (serial_words m (events h)) b 0
+    stored_serial b i none =
         let own : latest_store (stores a w ∷ job_of (events h) t) b ≡ None = subst (λ j. latest_store j b ≡ None) (job_accesses_same (events h) t (stores a w) opened) (none t l) in
         ⊎_elim
         (λ (is : b ≡ a). let g = latest_same a w (job_of (events h) t) in let z : ◌≡◌ {A = ℕ} 0 1 = cc in absurd (let bad : ⊥ = omega arith in bad))
@@ -115,71 +115,71 @@ module _ (m : List ℕ) (h : History) (s : State) (sound : Sound s.holds) (whole
         (cases_eq b a)
 
     -- an undo record more, unless the job stored there before
-    stored-logged : (u : ℕ) → u < 16 → (entry_at (set s.table t entry) u).undo ≡ map (record_of (serial_words m (events h))) (stored_addresses (job_of (accesses t (stores a w) ∷ events h) u))
-    stored-logged =
+    stored_logged : (u : ℕ) → u < 16 → (entry_at (set s.table t entry) u).undo ≡ map (record_of (serial_words m (events h))) (stored_addresses (job_of (accesses t (stores a w) ∷ events h) u))
+    stored_logged =
         by_accesses (events h) t (λ u j. u < 16 → (entry_at (set s.table t entry) u).undo ≡ map (record_of (serial_words m (events h))) (stored_addresses j)) (stores a w) opened
         (λ n.
         ap (λ v. v.undo) (entry_same s.table t entry reached.threads l)
         ∙ ap (λ us. noted us a (get_or s.words a 0)) (reached.logged t l)
-        ∙ noted-store (serial_words m (events h)) (job_of (events h) t) a w (get_or s.words a 0) roomy
-        (serial_there m h s reached t a k (λ u i ne. untouched-block (job_of (events h) u) (block_of a) (nobody_touched (events h) t (block_of a) clear u i ne))))
+        ∙ noted-stores (serial_words m (events h)) (job_of (events h) t) a w (get_or s.words a 0) roomy
+        (serial_there m h s reached t a k (λ u i ne. untouched_block (job_of (events h) u) (block_of a) (nobody_touched (events h) t (block_of a) clear u i ne))))
         (λ u ne n. ap (λ v. v.undo) (entry_other s.table t entry u ne) ∙ reached.logged u n)
 
-    stored-held : (u b : ℕ) → u < 16 → after_store s.holds t (block_of a) u b ≡ holding_of (job_of (accesses t (stores a w) ∷ events h) u) b
-    stored-held u b =
+    stored_held : (u b : ℕ) → u < 16 → after_store s.holds t (block_of a) u b ≡ holding_of (job_of (accesses t (stores a w) ∷ events h) u) b
+    stored_held u b =
         by_accesses (events h) t (λ u j. u < 16 → after_store s.holds t (block_of a) u b ≡ holding_of j b) (stores a w) opened
-        (λ n. take-store s.holds (job_of (events h) t) t a w b (λ c. reached.held t c n) (take_same l k ∙ clear))
-        (λ u ne n. take-other StoreTake s.holds t (block_of a) u b (λ is. ne (sym is)) ∙ reached.held u b n)
+        (λ n. after_take-store s.holds (job_of (events h) t) t a w b (λ c. reached.held t c n) (take_same l k ∙ clear))
+        (λ u ne n. after_take-other StoreTake s.holds t (block_of a) u b (λ is. ne (sym is)) ∙ reached.held u b n)
         u
 
-    stored-stored : (u b v : ℕ) → u < 16 → b < length m → latest_store (job_of (accesses t (stores a w) ∷ events h) u) b ≡ Some v → get_or (set s.words a w) b 0 ≡ v
-    stored-stored u b v =
+    stored_stored : (u b v : ℕ) → u < 16 → b < length m → latest_store (job_of (accesses t (stores a w) ∷ events h) u) b ≡ Some v → get_or (set s.words a w) b 0 ≡ v
+    stored_stored u b v =
         by_accesses (events h) t (λ u j. u < 16 → b < length m → latest_store j b ≡ Some v → get_or (set s.words a w) b 0 ≡ v) (stores a w) opened
-        (λ n i e. stored-own b v i e)
+        (λ n i e. stored_own b v i e)
         (λ u ne n i e. get_or-set_other s.words a b w 0 (elsewhere u n ne b v e) ∙ reached.stored u b v n i e)
         u
 
     abbrev seen : Seen
     seen = record { access = stores a w; word = 0 }
 
-    stored-loads : (u : ℕ) → u < 16 → Agrees (serial_words m (events h)) (job_of (accesses t seen ∷ sightings h) u)
-    stored-loads =
+    stored_loads : (u : ℕ) → u < 16 → Agrees (serial_words m (events h)) (job_of (accesses t seen ∷ sightings h) u)
+    stored_loads =
         by_accesses (sightings h) t (λ u j. u < 16 → Agrees (serial_words m (events h)) j) seen (forget_some h t ∙ opened)
         (λ n. agrees_more (serial_words m (events h)) seen (job_of (sightings h) t) tt (reached.open_loads t n))
         (λ u _. reached.open_loads u)
 
-    granted-store : Ok Done ≡ done_of (store_rule m (events h) t a) → Reached m (record { call = Store t a w; answer = Ok Done } ∷ h) record { words = set s.words a w; holds = after_store s.holds t (block_of a); table = set s.table t entry }
+    granted_store : Ok Done ≡ done_of (store_rule m (events h) t a) → Reached m (record { call = Store t a w; answer = Ok Done } ∷ h) record { words = set s.words a w; holds = after_store s.holds t (block_of a); table = set s.table t entry }
     unfolding serial_words EndedLoads Answers
-    granted-store rightly =
+    granted_store rightly =
         record {
           size = length-set s.words a w ∙ reached.size;
           threads = length-set s.table t entry ∙ reached.threads;
-          open? = stored-open;
+          open? = stored_open;
           above = λ u n. open_accesses_other (events h) t (stores a w) u (λ is. let bad : ⊥ = omega arith in bad) ∙ reached.above u n;
-          logged = stored-logged;
-          held = stored-held;
-          stored = stored-stored;
-          serial = stored-serial;
-          open_loads = stored-loads;
+          logged = stored_logged;
+          held = stored_held;
+          stored = stored_stored;
+          serial = stored_serial;
+          open_loads = stored_loads;
           ended_loads = (tt, reached.ended_loads);
           answers = (rightly, reached.answers);
         }
 
-pub step-store : (m : List ℕ) (h : History) (s s' : State) (t a w : ℕ) (r : Result Answer Fault) → Sound s.holds → Whole s.words → r ≡ done_of (store_answer s t a) → s' ≡ store_state s t a w → Reached m h s → Reached m (record { call = Store t a w; answer = r } ∷ h) s'
-step-store m h s s' t a w r sound whole answered after reached = go (store_way m (events h) t a) refl (store_same m h s sound whole reached t a)
+pub step_store : (m : List ℕ) (h : History) (s s' : State) (t a w : ℕ) (r : Result Answer Fault) → Sound s.holds → Whole s.words → r ≡ done_of (store_answer s t a) → s' ≡ store_state s t a w → Reached m h s → Reached m (record { call = Store t a w; answer = r } ∷ h) s'
+step_store m h s s' t a w r sound whole answered after reached = go (store_way m (events h) t a) refl (store_same m h s sound whole reached t a)
   where
     -- the state afterwards, once the answer is known
-    state-is : (v : Verdict) → store_answer s t a ≡ v → store_state s t a w ≡ cond (is_ok v) record { words = set s.words a w; holds = after_store s.holds t (block_of a); table = set s.table t (noted_in (entry_at s.table t) a (get_or s.words a 0)) } s
-    state-is v e = ap (λ q. cond {A = State} (is_ok q) record { words = set s.words a w; holds = after_store s.holds t (block_of a); table = set s.table t (noted_in (entry_at s.table t) a (get_or s.words a 0)) } s) e
+    state_is : (v : Verdict) → store_answer s t a ≡ v → store_state s t a w ≡ cond (is_ok v) record { words = set s.words a w; holds = after_store s.holds t (block_of a); table = set s.table t (noted_in (entry_at s.table t) a (get_or s.words a 0)) } s
+    state_is v e = ap (λ q. cond {A = State} (is_ok q) record { words = set s.words a w; holds = after_store s.holds t (block_of a); table = set s.table t (noted_in (entry_at s.table t) a (get_or s.words a 0)) } s) e
 
     go : {v : Verdict} → StoreWay m (events h) t a v → store_rule m (events h) t a ≡ v → store_answer s t a ≡ store_rule m (events h) t a → Reached m (record { call = Store t a w; answer = r } ∷ h) s'
     go (store_refused f) e same =
         subst₂ (λ q z. Reached m (record { call = Store t a w; answer = q } ∷ h) z)
         (sym (answered ∙ ap done_of (same ∙ e)))
-        (sym (after ∙ state-is _ (same ∙ e)))
-        (step-refused m h s (Store t a w) f (sym (ap done_of e)) reached)
+        (sym (after ∙ state_is _ (same ∙ e)))
+        (step_refused m h s (Store t a w) f (sym (ap done_of e)) reached)
     go (store_allowed l opened k roomy clear) e same =
         subst₂ (λ q z. Reached m (record { call = Store t a w; answer = q } ∷ h) z)
         (sym (answered ∙ ap done_of (same ∙ e)))
-        (sym (after ∙ state-is _ (same ∙ e)))
-        (granted-store m h s sound whole reached t a w l opened k roomy clear (sym (ap done_of e)))
+        (sym (after ∙ state_is _ (same ∙ e)))
+        (granted_store m h s sound whole reached t a w l opened k roomy clear (sym (ap done_of e)))

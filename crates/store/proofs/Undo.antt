@@ -1,6 +1,8 @@
 -- Undo records: the log of a job, one more record, and what putting the old words back leaves.
 use Rattle.std.proofs.Common.{◌≡◌, ℕ, ◌<◌, Bool, true, false, cond, ◌||◌, eqb, ltb, List, [], ◌∷◌, ◌++◌, map, length, get_or, is_some, Some, None, Option, sym, refl, ap, ◌∙◌, ⊎_elim, arith}
-use Rattle.record_log.specs.Latest.{latest_of, or_else}
+use Rattle.record_log.specs.Latest.{latest_of}
+use Rattle.record_log.proofs.Search.{latest_cons}
+use Rattle.std.specs.Option.{option_or}
 use Rattle.std.proofs.lemmas.List.{length-map, length-set, map_push, get_or-set_same, get_or-set_other}
 use Rattle.std.proofs.lemmas.Bool.{cases_eq, eq-eqb, ne_eqb, both_ways, or_left, or_right}
 use Rattle.threads.specs.Entries.{logged_in, noted}
@@ -33,11 +35,11 @@ some_again b w j a e =
     (cases_eq b a)
 
 -- an address is logged exactly if the job stored there
-pub logged-stored : (ws : List ℕ) (j : Job) (a : ℕ) → logged_in (map (record_of ws) (stored_addresses j)) a ≡ is_some (latest_store j a)
+pub logged_in-stored : (ws : List ℕ) (j : Job) (a : ℕ) → logged_in (map (record_of ws) (stored_addresses j)) a ≡ is_some (latest_store j a)
 unfolding stored_addresses
-logged-stored ws [] a = logged_none a ∙ ap is_some (sym (latest_none a))
-logged-stored ws (loads b ∷ j) a = logged-stored ws j a ∙ ap is_some (sym (latest_load b j a))
-logged-stored ws (stores b w ∷ j) a = go (is_some (latest_store j b)) refl (logged-stored ws j a)
+logged_in-stored ws [] a = logged_none a ∙ ap is_some (sym (latest_none a))
+logged_in-stored ws (loads b ∷ j) a = logged_in-stored ws j a ∙ ap is_some (sym (latest_load b j a))
+logged_in-stored ws (stores b w ∷ j) a = go (is_some (latest_store j b)) refl (logged_in-stored ws j a)
   where
     go : (q : Bool) → is_some (latest_store j b) ≡ q → logged_in (map (record_of ws) (stored_addresses j)) a ≡ is_some (latest_store j a) → logged_in (map (record_of ws) (cond q (stored_addresses j) (stored_addresses j ++ b ∷ []))) a ≡ is_some (latest_store (stores b w ∷ j) a)
     go true e ih = ih ∙ sym (some_again b w j a e)
@@ -58,45 +60,44 @@ records_same ws vs (stores b w ∷ j) same =
     go false ih e = let f = map_push (record_of ws) (stored_addresses j) b in let g = map_push (record_of vs) (stored_addresses j) b in cc
 
 -- one record more, with the word found where the job had not stored
-pub noted-store : (ws : List ℕ) (j : Job) (a w old : ℕ) → (ltb (length (stored_addresses j)) 64 || is_some (latest_store j a)) ≡ true → (latest_store j a ≡ None → old ≡ get_or ws a 0) → noted (map (record_of ws) (stored_addresses j)) a old ≡ map (record_of ws) (stored_addresses (stores a w ∷ j))
+pub noted-stores : (ws : List ℕ) (j : Job) (a w old : ℕ) → (ltb (length (stored_addresses j)) 64 || is_some (latest_store j a)) ≡ true → (latest_store j a ≡ None → old ≡ get_or ws a 0) → noted (map (record_of ws) (stored_addresses j)) a old ≡ map (record_of ws) (stored_addresses (stores a w ∷ j))
 unfolding stored_addresses
-noted-store ws j a w old room found =
-    rw (logged-stored ws j a, length-map (stored_addresses j) (record_of ws)) (go (latest_store j a) (ltb (length (stored_addresses j)) 64) room found)
+noted-stores ws j a w old room found =
+    rw (logged_in-stored ws j a, length-map (stored_addresses j) (record_of ws)) (go (latest_store j a) (ltb (length (stored_addresses j)) 64) room found)
   where
     go : (o : Option ℕ) (q : Bool) → (q || is_some o) ≡ true → (o ≡ None → old ≡ get_or ws a 0) → cond (is_some o) (map (record_of ws) (stored_addresses j)) (cond q (map (record_of ws) (stored_addresses j) ++ record { address = a; old = old } ∷ []) (map (record_of ws) (stored_addresses j))) ≡ map (record_of ws) (cond (is_some o) (stored_addresses j) (stored_addresses j ++ a ∷ []))
     go (Some v) q r f = refl
     go None true r f = let e = f refl in let g = map_push (record_of ws) (stored_addresses j) a in cc
     go None false r f = absurd (both_ways false refl r)
 
-pub length-put-back : (ws : List ℕ) (us : List Undo) → length (put_back ws us) ≡ length ws
+pub length-put_back : (ws : List ℕ) (us : List Undo) → length (put_back ws us) ≡ length ws
 unfolding put_back
-length-put-back ws [] = refl
-length-put-back ws (u ∷ us) = length-set (put_back ws us) u.address u.old ∙ length-put-back ws us
+length-put_back ws [] = refl
+length-put_back ws (u ∷ us) = length-set (put_back ws us) u.address u.old ∙ length-put_back ws us
 
-logged-more : (us : List Undo) (u : Undo) (a : ℕ) → logged_in (u ∷ us) a ≡ (eqb u.address a || logged_in us a)
-unfolding latest_of
-logged-more us u a = go (latest_of (λ v. v.address) a us) (eqb u.address a)
+logged_in-more : (us : List Undo) (u : Undo) (a : ℕ) → logged_in (u ∷ us) a ≡ (eqb u.address a || logged_in us a)
+logged_in-more us u a = ap is_some (latest_cons (λ v. v.address) a u us) ∙ go (latest_of (λ v. v.address) a us) (eqb u.address a)
   where
-    go : (o : Option Undo) (q : Bool) → is_some (or_else o (cond q (Some u) None)) ≡ (q || is_some o)
+    go : (o : Option Undo) (q : Bool) → is_some (option_or o (cond q (Some u) None)) ≡ (q || is_some o)
     go (Some v) true = refl
     go (Some v) false = refl
     go None true = refl
     go None false = refl
 
 -- an address in the log has its word of vs again, and any other the word in place
-put-back : (ws vs : List ℕ) (xs : List ℕ) (a : ℕ) → a < length ws → get_or (put_back ws (map (record_of vs) xs)) a 0 ≡ cond (logged_in (map (record_of vs) xs) a) (get_or vs a 0) (get_or ws a 0)
+get_or-put_back : (ws vs : List ℕ) (xs : List ℕ) (a : ℕ) → a < length ws → get_or (put_back ws (map (record_of vs) xs)) a 0 ≡ cond (logged_in (map (record_of vs) xs) a) (get_or vs a 0) (get_or ws a 0)
 unfolding put_back
-put-back ws vs [] a l = sym (ap (λ q. cond q (get_or vs a 0) (get_or ws a 0)) (logged_none a))
-put-back ws vs (x ∷ xs) a l =
+get_or-put_back ws vs [] a l = sym (ap (λ q. cond q (get_or vs a 0) (get_or ws a 0)) (logged_none a))
+get_or-put_back ws vs (x ∷ xs) a l =
     ⊎_elim
-    (λ (is : a ≡ x). let e = get_or-set_same (put_back ws (map (record_of vs) xs)) x (get_or vs x 0) 0 (omega (arith, length-put-back ws (map (record_of vs) xs))) in let f = logged-more (map (record_of vs) xs) (record_of vs x) a in let g = eq-eqb x a (sym is) in cc)
-    (λ (ne : a ≡ x → ⊥). let e = get_or-set_other (put_back ws (map (record_of vs) xs)) x a (get_or vs x 0) 0 ne in let f = logged-more (map (record_of vs) xs) (record_of vs x) a in let g = ne_eqb x a (λ is. ne (sym is)) in let k = put-back ws vs xs a l in cc)
+    (λ (is : a ≡ x). let e = get_or-set_same (put_back ws (map (record_of vs) xs)) x (get_or vs x 0) 0 (omega (arith, length-put_back ws (map (record_of vs) xs))) in let f = logged_in-more (map (record_of vs) xs) (record_of vs x) a in let g = eq-eqb x a (sym is) in cc)
+    (λ (ne : a ≡ x → ⊥). let e = get_or-set_other (put_back ws (map (record_of vs) xs)) x a (get_or vs x 0) 0 ne in let f = logged_in-more (map (record_of vs) xs) (record_of vs x) a in let g = ne_eqb x a (λ is. ne (sym is)) in let k = get_or-put_back ws vs xs a l in cc)
     (cases_eq a x)
 
 -- putting a job's records back: the words of vs where it stored
-pub put-back_stored : (ws vs : List ℕ) (j : Job) (a w : ℕ) → a < length ws → latest_store j a ≡ Some w → get_or (put_back ws (map (record_of vs) (stored_addresses j))) a 0 ≡ get_or vs a 0
-put-back_stored ws vs j a w l e = let f = put-back ws vs (stored_addresses j) a l in let g = logged-stored vs j a in cc
+pub get_or-put_back_stored : (ws vs : List ℕ) (j : Job) (a w : ℕ) → a < length ws → latest_store j a ≡ Some w → get_or (put_back ws (map (record_of vs) (stored_addresses j))) a 0 ≡ get_or vs a 0
+get_or-put_back_stored ws vs j a w l e = let f = get_or-put_back ws vs (stored_addresses j) a l in let g = logged_in-stored vs j a in cc
 
 -- and the words in place elsewhere
-pub put-back_other : (ws vs : List ℕ) (j : Job) (a : ℕ) → a < length ws → latest_store j a ≡ None → get_or (put_back ws (map (record_of vs) (stored_addresses j))) a 0 ≡ get_or ws a 0
-put-back_other ws vs j a l e = let f = put-back ws vs (stored_addresses j) a l in let g = logged-stored vs j a in cc
+pub get_or-put_back_other : (ws vs : List ℕ) (j : Job) (a : ℕ) → a < length ws → latest_store j a ≡ None → get_or (put_back ws (map (record_of vs) (stored_addresses j))) a 0 ≡ get_or ws a 0
+get_or-put_back_other ws vs j a l e = let f = get_or-put_back ws vs (stored_addresses j) a l in let g = logged_in-stored vs j a in cc

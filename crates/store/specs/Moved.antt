@@ -1,14 +1,16 @@
--- Which one move the book made for a call, if any.
-use Rattle.std.specs.Prelude.{◌≡◌, ℕ, ◌+◌, Bool, true, false, cond, Some, None, Ok, Err, Option, Result}
+-- What a call leaves, and which one move the book made for it, if any.
+use Rattle.std.specs.Prelude.{◌≡◌, ℕ, ◌+◌, Bool, true, false, cond, List, Some, None, Ok, Err, Option, Result}
 use Rattle.fault.specs.declared.Fault.{Fault}
 use Rattle.fault.specs.declared.Layer.{Layer}
 use Rattle.fault.specs.declared.Layer.TheVariants.{Text, Store as InStore, Memory, Book, Marks}
+use Rattle.book.specs.Holdings.{Holdings}
 use Rattle.book.specs.Moves.{Move, loaded, stored, released, seated, dropped}
-use Rattle.store.specs.States.{block_of}
+use Rattle.store.specs.States.{block_of, state_of, state_after}
 use Rattle.store.specs.declared.Answer.{Answer}
 use Rattle.store.specs.declared.Answer.TheVariants.{Done, Word, Ended}
 use Rattle.store.specs.declared.Call.{Call}
 use Rattle.store.specs.declared.Call.TheVariants.{Begin, Load, Store, Commit, Abort, Seat, Drop}
+use Rattle.store.specs.declared.Store.{Store as TheStore}
 
 abbrev pub is_book : Layer → Bool
 is_book Text = false
@@ -46,6 +48,13 @@ move_of (Drop board b) r = move_for (dropped board b) (granted r)
 abbrev pub MovedBy : {B : Type 0} → (B → Move → B → Type 0) → B → Option Move → B → Type 0
 MovedBy R k (Some τ) l = R k τ l
 MovedBy R k None l = l ≡ k
+
+-- what a call with its answer leaves: the state after it, what lies beyond the memory's words as it was, and the book
+-- after its one move
+pub record Leaves {M B : Type 0} (words : M → List ℕ) (beyond : M → List (List ℕ)) (holding : B → Holdings) (R : B → Move → B → Type 0) (before : TheStore M B) (c : Call) (r : Result Answer Fault) (after : TheStore M B) : Type 0 where
+  pub state : state_of words holding after ≡ state_after (state_of words holding before) c
+  pub untouched : beyond after.memory ≡ beyond before.memory
+  pub moved : MovedBy R before.book (move_of c r) after.book
 
 -- the releases that make a store fresh: of each thread below n in turn, the newest first
 pub data Releases {B : Type 0} (R : B → Move → B → Type 0) (first : B) : ℕ → B → Type 0 where

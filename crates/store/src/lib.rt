@@ -5,7 +5,6 @@
 #![tactic(auto)]
 
 mod calls;
-mod core_calls;
 mod made;
 mod runs;
 

@@ -44,12 +44,7 @@ impl<M: Memory, B: Book> Store<M, B> {
         ensures memory { result.0 ≡ self.memory }
         ensures book { result.1 ≡ self.book }
     {
-        let Store {
-            memory,
-            book,
-            table: _,
-        } = self;
-        (memory, book)
+        (self.memory, self.book)
     }
 }
 
@@ -58,6 +53,7 @@ fn released<B: Book>(mut book: B) -> B
     ensures moves { Releases B.Book.moves book 16 result }
     ensures none { NoneHeld 16 (B.Book.holding result) }
 {
+    // by number: a book lends no threads to go over
     'threads: for thread in 0..16 {
         let _ = book.release(thread);
     }

@@ -11,8 +11,7 @@ pub fn replay<M: Memory, B: Book>(memory: M, book: B, turns: &mut [Turn]) -> Sto
 {
     let mut store = Store::fresh(memory, book);
     'turns: for turn in turns.iter_mut() {
-        let answer = store.call(turn.call);
-        turn.answer = Some(answer);
+        turn.answer = Some(store.call(turn.call));
     }
     store
 }

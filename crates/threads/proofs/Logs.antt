@@ -1,5 +1,6 @@
 -- The undo logs of a thread table: how long they are, and what one record more makes logged.
-use Rattle.std.proofs.Common.{◌≡◌, ℕ, zero, suc, ◌≤◌, Bool, true, false, cond, ◌||◌, eqb, List, [], ◌∷◌, ◌++◌, map, length, get_or, is_some, Some, Option, refl, ap, ◌∙◌, arith}
+use Rattle.std.proofs.Common.{◌≡◌, ℕ, zero, suc, ◌≤◌, false, ◌||◌, eqb, List, [], ◌∷◌, ◌++◌, map, length, get_or, refl, arith}
+use Rattle.std.proofs.lemmas.Grind.{common_steps}
 use Rattle.record_log.proofs.Search.{latest_push}
 use Rattle.record_log.specs.Latest.{latest_of}
 use Rattle.std.proofs.lemmas.List.{length-take}
@@ -9,18 +10,12 @@ use Rattle.threads.specs.declared.Table.{Table}
 use Rattle.threads.specs.declared.entry.Entry.{Entry}
 use Rattle.threads.specs.declared.record.Undo.{Undo}
 
-some_cond : {R : Type 0} (b : Bool) (x : R) (o : Option R) → is_some (cond b (Some x) o) ≡ (b || is_some o)
-some_cond true x o = refl
-some_cond false x o = refl
-
 pub logged_none : (a : ℕ) → logged_in [] a ≡ false
 unfolding latest_of
 logged_none a = refl
 
 pub logged-push : (us : List Undo) (u : Undo) (a : ℕ) → logged_in (us ++ u ∷ []) a ≡ (eqb u.address a || logged_in us a)
-logged-push us u a =
-    ap is_some (latest_push (λ v. v.address) a us u)
-    ∙ some_cond (eqb u.address a) u (latest_of (λ v. v.address) a us)
+logged-push us u a = grind (arith, common_steps, latest_push)
 
 fits_entry : (e : Entry) → length (entry_of e).undo ≤ 64
 fits_entry e = omega (arith, length-take e.undo.count e.undo.items, e.undo.fits)

@@ -1,7 +1,7 @@
 // One entry of the thread table. It does not know its thread's number: whoever asks tells it.
-ghost use Rattle.std.specs.Prelude.{◌≡◌, ◌≤◌, [], length};
+ghost use Rattle.std.specs.Prelude.{◌≡◌, [], length};
 ghost use Rattle.threads.specs.Entries.{open_in, entry_of, idle, begun, noted_in, logged_in};
-ghost use Rattle.threads.specs.Judgement.{store_fault, judged, room_in};
+ghost use Rattle.threads.specs.Judgement.{judged, room_in};
 
 use crate::Undo;
 use fault::{Fault, Layer, Refusal};
@@ -10,8 +10,8 @@ use record_log::Log;
 // The most records that an undo log holds.
 pub(crate) const UNDO_LIMIT: usize = 64;
 
-#[derive(Clone, Copy)]
-pub enum State {
+#[derive(Clone, Copy, PartialEq, Eq, Debug)]
+pub(crate) enum State {
     // no job
     Idle,
     // a job was begun and has not ended
@@ -28,20 +28,11 @@ pub enum Request {
     Abort,
 }
 
+// The state stands beside the log, not around it: Table::note promises a record on an idle thread too.
 #[derive(Clone, Copy)]
-pub struct Entry {
+pub(crate) struct Entry {
     state: State,
     undo: Log<Undo, UNDO_LIMIT>,
-}
-
-// All that the table refuses, it refuses as a part of the store.
-pub(crate) fn fault_of(refusal: Refusal) -> Fault
-    ensures { result ≡ store_fault refusal }
-{
-    Fault {
-        layer: Layer::Store,
-        refusal,
-    }
 }
 
 impl Entry {
@@ -63,14 +54,14 @@ impl Entry {
         self.undo.clear();
     }
 
-    // Whether the thread's state allows the request.
+    // Whether the thread's state allows the request: the two are matched together.
     pub(crate) fn judge(&self, thread: u64, request: Request) -> Result<(), Fault>
         ensures { result ≡ judged thread (entry_of self.now) request }
     {
         match (self.state, request) {
             (State::Idle, Request::Begin) => Ok(()),
-            (State::Open, Request::Begin) => Err(fault_of(Refusal::JobOpen(thread))),
-            (State::Idle, _) => Err(fault_of(Refusal::NoJobOpen(thread))),
+            (State::Open, Request::Begin) => Err(Layer::Store.refuses(Refusal::JobOpen(thread))),
+            (State::Idle, _) => Err(Layer::Store.refuses(Refusal::NoJobOpen(thread))),
             (State::Open, _) => Ok(()),
         }
     }
@@ -89,7 +80,7 @@ impl Entry {
         if self.undo.count() < UNDO_LIMIT as u64 || self.logs(address) {
             return Ok(());
         }
-        Err(fault_of(Refusal::UndoLogFull(address)))
+        Err(Layer::Store.refuses(Refusal::UndoLogFull(address)))
     }
 
     // Opens the thread with an empty log.
@@ -111,7 +102,6 @@ impl Entry {
     // Makes the thread idle and empties its log. Answers how many records there were.
     pub(crate) fn close(&mut self) -> u64
         ensures count { result ≡ length (entry_of self.old).undo }
-        ensures fits { result ≤ 64 }
         ensures after { entry_of self.new ≡ idle }
     {
         let count = self.undo.count();
@@ -121,8 +111,7 @@ impl Entry {
 
     // The records, oldest first.
     pub(crate) fn undo(&self) -> &[Undo]
-        ensures value { result.now ≡ (entry_of self.now).undo }
-        ensures fits { length result.now ≤ 64 }
+        ensures { result.now ≡ (entry_of self.now).undo }
     {
         self.undo.records()
     }

@@ -1,7 +1,6 @@
 // Unpacks a buoy report: reads its frames from standard input, and prints the words of each and what was done.
 #![tactic(auto)]
 
-use fault::Fault;
 use frames::Unpacked;
 use memory::{Image, Plain};
 use std::io;
@@ -12,7 +11,7 @@ const REPORT_BYTES: u64 = 4096;
 
 const TABLE_WORDS: usize = 512;
 
-fn print_block(rt: &HostRuntime, number: usize, block: &[u64]) -> io::Result<()> {
+fn print_block(rt: &HostRuntime, number: u64, block: &[u64]) -> io::Result<()> {
     print!(rt; "block {number}:")?;
     for word in block {
         print!(rt; " {word}")?;
@@ -26,14 +25,10 @@ fn print_unpacked(rt: &HostRuntime, table: &Plain, done: Unpacked) -> io::Result
         words,
         trailing,
     } = done;
-    for (number, block) in table.buffer().chunks(8).take(blocks as usize).enumerate() {
+    for (number, block) in (0..blocks).zip(table.buffer().chunks(8)) {
         print_block(rt, number, block)?;
     }
     println!(rt; "unpacked {blocks} blocks, {words} words; {trailing} trailing bytes left over")
-}
-
-fn print_refused(rt: &HostRuntime, fault: Fault) -> io::Result<()> {
-    println!(rt; "refused: {fault:?}")
 }
 
 fn main(rt: HostRuntime) -> io::Result<()> {
@@ -43,6 +38,7 @@ fn main(rt: HostRuntime) -> io::Result<()> {
     let table = Plain::over(vec![in rt.alloc(); 0; TABLE_WORDS]?);
     match frames::unpack(&report, table) {
         Ok((table, done)) => print_unpacked(&rt, &table, done),
-        Err(fault) => print_refused(&rt, fault),
+        // the refusal by its name, in place of the fault's own text of numbers
+        Err(fault) => println!(rt; "refused: {fault:?}"),
     }
 }

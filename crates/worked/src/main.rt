@@ -10,12 +10,9 @@ mod marked_block;
 
 use board::BoardBook;
 use book::Marked;
-use fault::Fault;
 use memory::Plain;
-use std::io;
+use std::{fmt, io};
 use store::{Answer, Call, Turn};
-
-const RECEIVER: u64 = 1;
 
 const WRITER: u64 = 2;
 
@@ -64,35 +61,44 @@ const CALLS: [Call; 38] = [
     Call::Store(1, 8, 3),
 ];
 
-fn print_call(rt: &HostRuntime, call: Call) -> io::Result<()> {
-    match call {
-        Call::Begin(thread) => print!(rt; "begin {thread}"),
-        Call::Load(thread, address) => print!(rt; "load {thread} {address}"),
-        Call::Store(thread, address, word) => print!(rt; "store {thread} {address} {word}"),
-        Call::Commit(thread) => print!(rt; "commit {thread}"),
-        Call::Abort(thread) => print!(rt; "abort {thread}"),
-        Call::Seat(thread, board) => print!(rt; "seat {thread} {board}"),
-        Call::Drop(board, block) => print!(rt; "drop {board} {block}"),
+// A call, as the list prints it.
+#[derive(Clone, Copy)]
+struct CallText(Call);
+
+impl fmt::Display for CallText {
+    fn fmt<W: fmt::Write>(&self, f: &mut fmt::Formatter<W>) -> fmt::Result {
+        match self.0 {
+            Call::Begin(thread) => write!(f, "begin {thread}"),
+            Call::Load(thread, address) => write!(f, "load {thread} {address}"),
+            Call::Store(thread, address, word) => write!(f, "store {thread} {address} {word}"),
+            Call::Commit(thread) => write!(f, "commit {thread}"),
+            Call::Abort(thread) => write!(f, "abort {thread}"),
+            Call::Seat(thread, board) => write!(f, "seat {thread} {board}"),
+            Call::Drop(board, block) => write!(f, "drop {board} {block}"),
+        }
     }
 }
 
-fn print_refused(rt: &HostRuntime, fault: Fault) -> io::Result<()> {
-    let letter = fault.letter();
-    let number = fault.number();
-    let place = fault.place();
-    println!(rt; ": refused, {letter} {number} {place}")
+// An answer, as the list prints it.
+#[derive(Clone, Copy)]
+struct AnswerText(Answer);
+
+impl fmt::Display for AnswerText {
+    fn fmt<W: fmt::Write>(&self, f: &mut fmt::Formatter<W>) -> fmt::Result {
+        match self.0 {
+            Answer::Done => write!(f, "granted"),
+            Answer::Word(word) => write!(f, "{word}"),
+            Answer::Ended(records, figure) => write!(f, "{records} records, figure {figure}"),
+        }
+    }
 }
 
 fn print_turn(rt: &HostRuntime, turn: Turn) -> io::Result<()> {
-    print_call(rt, turn.call)?;
+    let call = CallText(turn.call);
     match turn.answer {
-        Some(Ok(Answer::Done)) => println!(rt; ": granted"),
-        Some(Ok(Answer::Word(word))) => println!(rt; ": {word}"),
-        Some(Ok(Answer::Ended(records, figure))) => println!(rt;
-            ": {records} records, figure {figure}"
-        ),
-        Some(Err(fault)) => print_refused(rt, fault),
-        None => println!(rt; ": not made"),
+        Some(Ok(answer)) => println!(rt; "{call}: {}", AnswerText(answer)),
+        Some(Err(fault)) => println!(rt; "{call}: refused, {fault}"),
+        None => println!(rt; "{call}: not made"),
     }
 }
 
@@ -125,18 +131,12 @@ fn print_readings(rt: &HostRuntime, turns: &[Turn]) -> io::Result<()> {
 fn print_tokens(rt: &HostRuntime, book: &BoardBook, block: u64) -> io::Result<()> {
     match book.tokens(block) {
         Ok(tokens) => println!(rt; "block {block} shows {tokens} tokens"),
-        Err(fault) => print_refused(rt, fault),
+        Err(fault) => println!(rt; "block {block}: refused, {fault}"),
     }
 }
 
 fn replay_list(rt: &HostRuntime) -> io::Result<()> {
-    let mut turns = [Turn {
-        call: Call::Begin(RECEIVER),
-        answer: None,
-    }; 38];
-    for (turn, call) in turns.iter_mut().zip(CALLS) {
-        turn.call = call;
-    }
+    let mut turns = CALLS.map(|call| Turn { call, answer: None });
     let memory = Plain::over(vec![in rt.alloc(); 0; 512]?);
     let store = store::replay_marked(memory, BoardBook::new(), &mut turns);
     for turn in turns {

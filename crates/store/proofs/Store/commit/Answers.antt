@@ -1,21 +1,9 @@
-use Rattle.std.proofs.Common.{ap}
-use Rattle.store.specs.States.{state_of, ended_of}
-use Rattle.store.specs.declared.Call.TheVariants.{Commit}
-use Rattle.store.proofs.Step.{step}
+use Rattle.std.proofs.Common.{rules}
+use Rattle.store.proofs.Step.{carries}
 use Rattle.store.proofs.Store.commit.Goals as goal
 
-pub returns : goal.returns
-returns g c =
-    let told = c.core_commit.ensures in
-    let before = c.args.self.now in
-    let after = c.core_commit.new.self in
-    let state = state_of g.M.Memory.words g.B.Book.holding in
-    record {
-      answer = told.answer;
-      after = told.after;
-      beyond = ap g.M.Memory.beyond told.memory;
-      own = told.own;
-      step =
-          λ m h reached.
-          step m h (state before) (state after) (Commit c.args.thread) (ended_of c.core_commit.result) (g.met.B.Book.sound before.book) (g.met.B.Book.sound after.book) (g.met.M.Memory.whole before.memory) told.answer told.after reached;
-    }
+pub returns-in_err-judge-clause-step : goal.returns-in_err-judge-clause-step
+returns-in_err-judge-clause-step g c = carries (g.met.B.Book.sound _) (g.met.M.Memory.whole _) (search rules) (search rules)
+
+pub returns-clause-step : goal.returns-clause-step
+returns-clause-step g c = carries (g.met.B.Book.sound _) (g.met.M.Memory.whole _) (search rules) (search rules)

@@ -1,33 +1,40 @@
-use Rattle.std.proofs.Common.{◌≡◌, ◌+◌, ◌<◌, ◌≤◌, [], map, length, drop, fold, sym, ap, ◌∙◌, arith, rules}
-use Rattle.std.proofs.lemmas.List.{drop_all}
+use Rattle.std.proofs.Common.{◌≡◌, ◌+◌, ◌∷◌, map, length, drop, fold, Option, List, sym, refl, ap, ◌∙◌, subst, rules}
+use Rattle.std.specs.Array.Iter.{array_steps}
+use Rattle.std.proofs.lemmas.Fn.{serves_by, fold_over}
+use Rattle.std.proofs.lemmas.List.{map-append}
 use Rattle.marks.specs.Rules.{state_in}
+use Rattle.marks.specs.declared.Mark.{Mark}
+use Rattle.book.specs.Balance.{Coherent}
 use Rattle.book.specs.Marking.{fused, gathered}
 use Rattle.book.specs.Picture.{no_copies}
-use Rattle.board.proofs.Copies.{copies_from, copy_step}
+use Rattle.board.proofs.Chains.{array_road, next_comes}
+use Rattle.board.proofs.Copies.{fuses_next, one_fused}
 use Rattle.board.proofs.block.Block.gather.Goals as goal
 
-pub fuse_copy-home-requires : goal.fuse_copy-home-requires
-fuse_copy-home-requires c =
-    let l : c.boards.board < length c.args.self.now.copies = search rules in
-    (copy_step c.boards.home.state c.args.self.now.copies c.boards.board c.index-self-board.result l c.boards.invariant.0).0
-
-pub boards-preserved : goal.boards-preserved
-boards-preserved c =
-    let l : c.boards.board < length c.args.self.now.copies = search rules in
-    let cs = c.args.self.now.copies in
-    let i = c.boards.board in
-    let x = c.index-self-board.result in
-    let step = copy_step c.boards.home.state cs i x l c.boards.invariant.0 in
-    let rest = drop (i + 1) (map state_in cs) in (
-      rw c.fuse_copy-home.ensures step.1,
-      ap (λ h. fold fused h rest) c.fuse_copy-home.ensures ∙ ap (fold fused c.boards.home.state) (sym (copies_from cs i x l)) ∙ c.boards.invariant.1,
-    )
+pub fold-self-requires-clause-callable : goal.fold-self-requires-clause-callable
+fold-self-requires-clause-callable c =
+    let k = c.args.self.now in
+    let road = array_road {n = 4} {s = c.into_iter.result} k.copies c.into_iter.ensures.into_iter_gives.0 in
+    serves_by _ (λ xs q. q.1.state ≡ fold fused k.home.state (map state_in xs))
+    (λ xs q x v so_far turn.
+    let step : v.1.state ≡ fused q.1.state (state_in x) = search rules in
+    step ∙ ap (λ h. fused h (state_in x)) so_far ∙ one_fused k.home.state xs x)
+    _ _ _ _ refl
+    (λ xs t q x u yields next so_far.
+    let left = drop (length xs + 1) k.copies in
+    let whole = ap (map state_in) (next_comes road xs t u x yields next) ∙ map-append state_in xs (x ∷ left) in
+    let fuses = fuses_next k.home.state (map state_in xs) (map state_in left) (state_in x) (subst (Coherent k.home.state) whole c.requires) in
+    let here = rw (sym so_far) at fuses in
+    search rules)
 
 pub returns : goal.returns
 unfolding gathered
 returns c =
-    let cs = c.args.self.now.copies in
-    let whole : length (map state_in cs) ≤ c.boards.board = omega arith in
-    let done : drop c.boards.board (map state_in cs) ≡ [] = drop_all c.boards.board (map state_in cs) whole in
-    let home : c.boards.home.state ≡ fold fused c.args.self.now.home.state (map state_in cs) = ap (fold fused c.boards.home.state) (sym done) ∙ c.boards.invariant.1 in
+    let k = c.args.self.now in
+    let road = array_road {n = 4} {s = c.into_iter.result} k.copies c.into_iter.ensures.into_iter_gives.0 in
+    let home = fold_over array_steps (λ y. y) _ (λ (ys : List (Option Mark)) (a : Mark). a.state ≡ fold fused k.home.state (map state_in ys)) _
+    (λ ys a x b f' so_far turn.
+    let step : b.state ≡ fused a.state (state_in x) = search rules in
+    (step ∙ ap (λ h. fused h (state_in x)) so_far ∙ one_fused k.home.state ys x, search rules))
+    c.into_iter.result k.copies k.home c.fold-self.result road.runs refl c.fold-self.ensures.ran in
     ap (λ h. record { home = h; copies = no_copies }) home

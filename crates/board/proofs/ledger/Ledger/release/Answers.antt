@@ -1,25 +1,53 @@
-use Rattle.std.proofs.Common.{◌≡◌, ◌<◌, [], length, ap, ◌∙◌, rules}
-use Rattle.book.specs.Marking.{logged, release_picture}
-use Rattle.book.specs.Picture.{Picture, holdings_of}
-use Rattle.book.proofs.Balances.{balanced_from, order_figure}
-use Rattle.book.proofs.Releases.{release_holds, release_balanced}
+use Rattle.std.proofs.Common.{◌≡◌, ◌<◌, length, get_or, sym, refl, ap, ◌∙◌, subst, rules}
+use Rattle.book.specs.Balance.{Balanced}
+use Rattle.book.specs.Picture.{holdings_of}
+use Rattle.book.proofs.Balances.{agrees_coherent, order_figure}
+use Rattle.book.proofs.Releases.{relieve_range, release_holds, release_balanced}
 use Rattle.board.specs.Drawn.{drawn}
-use Rattle.board.proofs.Drawings.{log_drawn, log_now}
+use Rattle.board.specs.declared.ledger.Account.{Account}
+use Rattle.board.proofs.Drawings.{log_at, released-drawn}
+use Rattle.board.proofs.Ledgers.{balance_of, limit_in}
 use Rattle.board.proofs.ledger.Ledger.release.Goals as goal
+
+pub relieve-requires : goal.relieve-requires
+relieve-requires c =
+    let k = c.args.self.now in
+    let p = drawn k in
+    let t = c.args.thread.number in
+    let l : c.index.result < length k.accounts = search rules in
+    let log = log_at k.accounts t c.index.result c.index-accounts-index.result c.index.ensures.value l in
+    record {
+      limit = λ b n. rw (sym log) (limit_in k t b c.args.thread.range n);
+      coherent = λ b n. agrees_coherent (p.marks b).home (p.marks b).copies (λ u. holdings_of p u b) ((balance_of k).agrees b n);
+      left = λ b n. rw (sym log) (relieve_range p t b (balance_of k) n);
+    }
+
+pub invariant_of-self : goal.invariant_of-self
+invariant_of-self c =
+    let k = c.args.self.now in
+    let t = c.args.thread.number in
+    let i = c.index.result in
+    let d = c.index-accounts-index.result in
+    let l : i < length k.accounts = search rules in
+    let a : Account = record { board = (get_or k.accounts i d).board; log = c.clear.new.self } in
+    let after = released-drawn k.blocks c.relieve.new.blocks k.accounts t i a d c.index.ensures.value l c.relieve.ensures refl c.clear.ensures in
+    record { balanced = ∣ subst Balanced (sym after) (release_balanced (drawn k) t (balance_of k) c.args.thread.range) ∣₁ }
 
 pub returns : goal.returns
 returns c =
-    let p = drawn c.args.self.now in
-    let k = c.relieve.new.self in
-    let t = c.args.thread in
-    let l : t < length k.logs = search rules in
-    let after : drawn (record { blocks = k.blocks; seats = k.seats; logs = _ }) ≡ release_picture p t = log_drawn k.blocks k.seats k.logs t c.clear.new.self [] l c.clear.ensures ∙ ap (λ (q : Picture). logged q t []) c.relieve.ensures in
-    let figure : c.count-count.result ≡ length (p.logs t) = c.count-count.ensures ∙ ap length (log_now k 64 p t c.index-logs-thread.result c.relieve.ensures l) in
-    let limits = order_figure p t ((balanced_from p c.requires.1).in_order t c.requires.0) in
+    let k = c.args.self.now in
+    let p = drawn k in
+    let t = c.args.thread.number in
+    let i = c.index.result in
+    let d = c.index-accounts-index.result in
+    let l : i < length k.accounts = search rules in
+    let a : Account = record { board = (get_or k.accounts i d).board; log = c.clear.new.self } in
+    let after = released-drawn k.blocks c.relieve.new.blocks k.accounts t i a d c.index.ensures.value l c.relieve.ensures refl c.clear.ensures in
+    let figure : c.count-count.result ≡ length (p.logs t) = c.count-count.ensures ∙ ap length (sym (log_at k.accounts t i d c.index.ensures.value l)) in
+    let limits = order_figure p t ((balance_of k).in_order t c.args.thread.range) in
     record {
       answer = figure;
-      bounds = (c.requires.0, rw figure limits.0, rw figure limits.1);
+      bounds = (c.args.thread.range, rw figure limits.0, rw figure limits.1);
       after = after;
       held = ap holdings_of after ∙ release_holds p t;
-      kept = ∣ rw after (release_balanced p t (balanced_from p c.requires.1) c.requires.0) ∣₁;
     }

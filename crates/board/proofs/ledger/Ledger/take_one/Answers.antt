@@ -1,61 +1,86 @@
-use Rattle.std.proofs.Common.{◌≡◌, ◌<◌, length, set, Ok, Err, sym, ap, ◌∙◌, rules}
+use Rattle.std.proofs.Common.{◌≡◌, ◌<◌, length, get_or, Ok, Err, sym, refl, ◌∙◌, subst, rules}
 use Rattle.std.proofs.lemmas.Result.{err_from_is_err_and}
-use Rattle.book.specs.Marking.{noted, copy_or_split, with_copy, read_by, load_answer}
-use Rattle.book.specs.Picture.{Marks, Picture}
-use Rattle.book.proofs.Balances.{balanced_from}
-use Rattle.book.proofs.Loads.{loads, load_refused, load_granted}
-use Rattle.board.specs.Drawn.{drawn}
-use Rattle.board.proofs.Drawings.{block_at, block_drawn, log_at, noted-drawn}
+use Rattle.book.specs.Balance.{Balanced}
+use Rattle.book.specs.Marking.{copy_or_split, load_answer}
+use Rattle.board.specs.Shown.{marks_of}
+use Rattle.board.specs.Tables.{seat_of}
+use Rattle.board.specs.declared.ledger.Account.{Account}
+use Rattle.board.proofs.Drawings.{block_at, seat_at, log_at}
+use Rattle.board.proofs.Ledgers.{loads_in}
+use Rattle.board.proofs.Takes.{Loading, loading, load_refused_drawn, load_granted_drawn}
 use Rattle.board.proofs.ledger.Ledger.take_one.Goals as goal
 
 pub load-requires : goal.load-requires
 load-requires c =
     let k = c.args.self.now in
-    let l : c.args.block < length k.blocks = search rules in
-    let here = block_at k.blocks c.args.block c.index-blocks-block.result l in
-    let s = balanced_from (drawn k) c.requires.1.1.0 in
-    (s.seated c.args.thread c.requires.0, rw here at (loads (drawn k) c.args.thread c.args.block s c.requires.0 c.requires.1.0 c.requires.1.1.1).range)
+    let t = c.args.thread.number in
+    let b = c.args.block.number in
+    let l : c.index.result < length k.accounts = search rules in
+    let m : c.index-2.result < length k.blocks = search rules in
+    let here = block_at k.blocks b c.index-2.result c.index-blocks-index.result c.index-2.ensures.value m in
+    let sits = seat_at k.accounts t c.index.result c.index-accounts-index.result c.index.ensures.value l in
+    rw (here, sits) at (loads_in k c.args.thread c.args.block c.requires).range
+
+pub invariant_of-self : goal.invariant_of-self
+invariant_of-self c =
+    let k = c.args.self.now in
+    let t = c.args.thread.number in
+    let b = c.args.block.number in
+    let l : c.index.result < length k.accounts = search rules in
+    let m : c.index-2.result < length k.blocks = search rules in
+    let w : Loading k.blocks k.accounts t b _ _ _ _ _ = loading c.index.ensures.value l c.index-2.ensures.value m c.load.ensures.after in
+    let after = load_refused_drawn w (sym c.load.ensures.answer ∙ c.in_err-load.was) in
+    record { balanced = ∣ subst Balanced (sym after) (loads_in k c.args.thread c.args.block c.requires).kept ∣₁ }
 
 pub returns-in_err-load : goal.returns-in_err-load
 returns-in_err-load c =
     let k = c.args.self.now in
-    let t = c.args.thread in
-    let b = c.args.block in
-    let l : b < length k.blocks = search rules in
-    let here = block_at k.blocks b c.index-blocks-block.result l in
-    let seat = (drawn k).seats t in
-    let w = loads (drawn k) t b (balanced_from (drawn k) c.requires.1.1.0) c.requires.0 c.requires.1.0 c.requires.1.1.1 in
+    let t = c.args.thread.number in
+    let b = c.args.block.number in
+    let l : c.index.result < length k.accounts = search rules in
+    let m : c.index-2.result < length k.blocks = search rules in
+    let here = block_at k.blocks b c.index-2.result c.index-blocks-index.result c.index-2.ensures.value m in
+    let sits = seat_at k.accounts t c.index.result c.index-accounts-index.result c.index.ensures.value l in
+    let w : Loading k.blocks k.accounts t b _ _ _ _ _ = loading c.index.ensures.value l c.index-2.ensures.value m c.load.ensures.after in
     let p = err_from_is_err_and c.from_residual.result c.from_residual.ensures.1 in
-    let answered : load_answer (copy_or_split ((drawn k).marks b) seat) ≡ Err c.in_err-load.field-0.0 = ap (λ (m : Marks). load_answer (copy_or_split m seat)) here ∙ sym c.load.ensures.answer ∙ c.in_err-load.was in
-    let marks = c.load.ensures.after ∙ ap (λ (m : Marks). with_copy m seat (read_by t (copy_or_split m seat))) (sym here) in
+    let answered : load_answer (copy_or_split (marks_of (get_or k.blocks c.index-2.result c.index-blocks-index.result)) (seat_of (get_or k.accounts c.index.result c.index-accounts-index.result))) ≡ Err c.in_err-load.field-0.0 = sym c.load.ensures.answer ∙ c.in_err-load.was in
     record {
-      answer = rw (p.1, p.2) (sym answered ∙ w.answer);
-      after = block_drawn k.blocks k.seats k.logs b c.load.new.self _ l marks ∙ load_refused (drawn k) t b _ answered;
+      answer = rw (p.1, p.2) (sym answered ∙ (rw (here, sits) at (loads_in k c.args.thread c.args.block c.requires).answer));
+      after = load_refused_drawn w answered;
     }
 
 pub note-requires : goal.note-requires
 note-requires c =
     let k = c.args.self.now in
-    let l : c.args.thread < length k.logs = search rules in
-    let s = balanced_from (drawn k) c.requires.1.1.0 in
-    rw (log_at k.logs c.args.thread c.index-logs-thread.result l) at (loads (drawn k) c.args.thread c.args.block s c.requires.0 c.requires.1.0 c.requires.1.1.1).room
+    let t = c.args.thread.number in
+    let l : c.index.result < length k.accounts = search rules in
+    rw (log_at k.accounts t c.index.result c.index-accounts-index.result c.index.ensures.value l) at (loads_in k c.args.thread c.args.block c.requires).room
+
+pub invariant_of-self-2 : goal.invariant_of-self-2
+invariant_of-self-2 c =
+    let k = c.args.self.now in
+    let t = c.args.thread.number in
+    let b = c.args.block.number in
+    let l : c.index.result < length k.accounts = search rules in
+    let m : c.index-2.result < length k.blocks = search rules in
+    let w : Loading k.blocks k.accounts t b _ _ _ _ _ = loading c.index.ensures.value l c.index-2.ensures.value m c.load.ensures.after in
+    let a : Account = record { board = (get_or k.accounts c.index.result c.index-accounts-index.result).board; log = c.note.new.self } in
+    let after = load_granted_drawn a w (sym c.load.ensures.answer ∙ c.in_ok-load.was) c.number.ensures.value c.new.ensures refl c.note.ensures in
+    record { balanced = ∣ subst Balanced (sym after) (loads_in k c.args.thread c.args.block c.requires).kept ∣₁ }
 
 pub returns : goal.returns
 returns c =
     let k = c.args.self.now in
-    let t = c.args.thread in
-    let b = c.args.block in
-    let l : b < length k.blocks = search rules in
-    let m : t < length k.logs = search rules in
-    let here = block_at k.blocks b c.index-blocks-block.result l in
-    let seat = (drawn k).seats t in
-    let w = loads (drawn k) t b (balanced_from (drawn k) c.requires.1.1.0) c.requires.0 c.requires.1.0 c.requires.1.1.1 in
-    let answered : load_answer (copy_or_split ((drawn k).marks b) seat) ≡ Ok c.in_ok-load.field-0 = ap (λ (m : Marks). load_answer (copy_or_split m seat)) here ∙ sym c.load.ensures.answer ∙ c.in_ok-load.was in
-    let marks = c.load.ensures.after ∙ ap (λ (m : Marks). with_copy m seat (read_by t (copy_or_split m seat))) (sym here) in
+    let t = c.args.thread.number in
+    let b = c.args.block.number in
+    let l : c.index.result < length k.accounts = search rules in
+    let m : c.index-2.result < length k.blocks = search rules in
+    let here = block_at k.blocks b c.index-2.result c.index-blocks-index.result c.index-2.ensures.value m in
+    let sits = seat_at k.accounts t c.index.result c.index-accounts-index.result c.index.ensures.value l in
+    let w : Loading k.blocks k.accounts t b _ _ _ _ _ = loading c.index.ensures.value l c.index-2.ensures.value m c.load.ensures.after in
+    let a : Account = record { board = (get_or k.accounts c.index.result c.index-accounts-index.result).board; log = c.note.new.self } in
+    let answered : load_answer (copy_or_split (marks_of (get_or k.blocks c.index-2.result c.index-blocks-index.result)) (seat_of (get_or k.accounts c.index.result c.index-accounts-index.result))) ≡ Ok c.in_ok-load.field-0 = sym c.load.ensures.answer ∙ c.in_ok-load.was in
     record {
-      answer = sym answered ∙ w.answer;
-      after =
-          noted-drawn (set k.blocks b c.load.new.self) k.seats k.logs t b 1 c.new.result.0 c.note.new.self c.index-logs-thread.result m c.note.ensures c.new.ensures
-          ∙ ap (λ (p : Picture). noted p t b 1) (block_drawn k.blocks k.seats k.logs b c.load.new.self _ l marks)
-          ∙ load_granted (drawn k) t b _ answered;
+      answer = sym answered ∙ (rw (here, sits) at (loads_in k c.args.thread c.args.block c.requires).answer);
+      after = load_granted_drawn a w answered c.number.ensures.value c.new.ensures refl c.note.ensures;
     }

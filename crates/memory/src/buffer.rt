@@ -1,0 +1,105 @@
+// Buffer: a memory over a buffer of items, each a word or a byte of a word.
+ghost use Rattle.std.specs.Prelude.{◌≡◌, ℕ, ◌*◌, ◌^◌, ◌<◌, ◌≤◌, List, length, slice_index, slice_set};
+ghost use Rattle.memory.specs.Words.{write_answer, whole_blocks};
+ghost use Rattle.memory.specs.Fronts.{whole_counted};
+
+use super::Memory;
+use fault::Fault;
+
+// An item of a buffer, and how words lie in a buffer of such items: the whole blocks at its front, at most 64, are the
+// memory's words. Not exported, since its functions ask for an address within the words: memories alone call them.
+pub trait Item: Copy {
+    // how many items a block has
+    const PER_BLOCK: usize;
+
+    ghost PER_BLOCK: { ℕ };
+
+    // the words of the blocks
+    ghost words: { List Self → List ℕ };
+
+    // the items behind the blocks
+    ghost beyond: { List Self → List (List ℕ) };
+
+    // the buffer after a write of a word to an address
+    ghost after: { List Self → ℕ → ℕ → List Self };
+
+    // The word at an address.
+    fn word_at(buffer: &[Self], address: usize) -> u64
+        requires { address < length (words buffer.now) }
+        ensures { result ≡ slice_index (words buffer.now) address };
+
+    // Replaces the word at an address.
+    fn put_word(buffer: &mut [Self], address: usize, word: u64)
+        requires { address < length (words buffer.old) }
+        ensures { buffer.new ≡ after buffer.old address word };
+
+    // a block has items
+    ghost nonzero: { 0 < PER_BLOCK };
+
+    // whole blocks, at most 64
+    ghost counted: { (buffer : List Self) → length (words buffer) ≡ 8 * whole_blocks (length buffer) PER_BLOCK };
+
+    // a write replaces the one word, and none past the last
+    ghost words_after: { (buffer : List Self) (a w : ℕ) → w < 2 ^ 64 → words (after buffer a w) ≡ slice_set (words buffer) a w };
+
+    ghost beyond_after: { (buffer : List Self) (a w : ℕ) → w < 2 ^ 64 → beyond (after buffer a w) ≡ beyond buffer };
+
+    ghost after_past: { (buffer : List Self) (a w : ℕ) → length (words buffer) ≤ a → after buffer a w ≡ buffer };
+}
+
+// The items behind the whole blocks are never touched.
+#[derive(Drop)]
+pub struct Buffer<T> {
+    buffer: Vec<T>,
+}
+
+impl<T: Item> Buffer<T> {
+    pub fn over(buffer: Vec<T>) -> Buffer<T>
+        ensures { result.buffer ≡ buffer }
+    {
+        Buffer { buffer }
+    }
+
+    // The whole buffer, with what lies behind the blocks.
+    pub fn buffer(&self) -> &[T]
+        ensures { result.now ≡ self.now.buffer.items }
+    {
+        &self.buffer
+    }
+
+    // The buffer, given back.
+    pub fn into_buffer(self) -> Vec<T>
+        ensures { result ≡ self.buffer }
+    {
+        self.buffer
+    }
+}
+
+impl<T: Item> Memory for Buffer<T> {
+    ghost words = { λ m. T.words m.buffer.items };
+
+    ghost beyond = { λ m. T.beyond m.buffer.items };
+
+    ghost whole = { λ m. whole_counted (T.words m.buffer.items) (length m.buffer.items) T.PER_BLOCK (T.counted m.buffer.items) };
+
+    fn size(&self) -> u64 {
+        (self.buffer.len() / T::PER_BLOCK).min(64) as u64
+    }
+
+    fn read(&self, address: u64) -> Result<u64, Fault> {
+        super::check(address, self.size())?;
+        Ok(T::word_at(&self.buffer, address as usize))
+    }
+
+    // The trait's clauses stand again, since an impl that adds one (items) names them all.
+    fn write(&mut self, address: u64, word: u64) -> Result<(), Fault>
+        ensures answer { result ≡ write_answer (T.words self.old.buffer.items) address }
+        ensures after { T.words self.new.buffer.items ≡ slice_set (T.words self.old.buffer.items) address word }
+        ensures beyond { T.beyond self.new.buffer.items ≡ T.beyond self.old.buffer.items }
+        ensures items { self.new.buffer.items ≡ T.after self.old.buffer.items address word }
+    {
+        super::check(address, self.size())?;
+        T::put_word(&mut self.buffer, address as usize, word);
+        Ok(())
+    }
+}
