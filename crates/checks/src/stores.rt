@@ -1,8 +1,9 @@
-// The store on worked lists of calls.
+// The store on worked lists of calls, by thread number and through held jobs.
 use board::BoardBook;
 use book::Book;
 use fault::{Layer, Refusal};
 use full::FullBook;
+use held::HeldJob;
 use memory::{Memory, Plain};
 use std::process::Abort;
 use std::test::Fail;
@@ -187,5 +188,47 @@ fn jobs_on_different_blocks(rt: HostRuntime) -> Result<(), Fail> {
         assert_eq!(rt; store.commit(thread), Ok((1, 1)));
     }
     assert_eq!(rt; store.memory().read(120), Ok(15));
+    Ok(())
+}
+
+#[test]
+fn three_jobs_held_at_once(rt: HostRuntime) -> Result<(), Fail> {
+    let mut store = tens(&rt, 512, FullBook::new())?;
+    let first = HeldJob::begin(&mut store, 1).expect(&rt, "thread 1 is idle");
+    let second = HeldJob::begin(&mut store, 2).expect(&rt, "thread 2 is idle");
+    let third = HeldJob::begin(&mut store, 3).expect(&rt, "thread 3 is idle");
+    assert_eq!(rt; first.store(&mut store, 0, 11), Ok(()));
+    assert_eq!(rt; second.load(&mut store, 8), Ok(10));
+    assert_eq!(rt; third.load(&mut store, 15), Ok(10));
+    let conflict = first
+        .store(&mut store, 9, 12)
+        .map_err(|fault| (fault.number(), fault.place()));
+    assert_eq!(rt;
+        conflict,
+        Err((7, 2)),
+        "threads 2 and 3 have read in the block, and the lower one is named"
+    );
+    assert_eq!(rt; second.store(&mut store, 16, 20), Ok(()));
+    assert_eq!(rt;
+        store.store(3, 24, 30),
+        Ok(()),
+        "a call by thread number goes to the job that is held"
+    );
+    assert_eq!(rt; third.load(&mut store, 24), Ok(30));
+    assert_eq!(rt; store.commit(3), Ok((1, 2)));
+    let ended = Layer::Store.refuses(Refusal::NoJobOpen(3));
+    assert_eq!(rt; third.load(&mut store, 24), Err(ended));
+    assert_eq!(rt; first.store(&mut store, 0, 13), Ok(()));
+    assert_eq!(rt; third.commit(&mut store), Err(ended));
+    assert_eq!(rt; second.abort(&mut store), Ok((1, 2)));
+    assert_eq!(rt;
+        first.store(&mut store, 9, 12),
+        Ok(()),
+        "both readers are gone"
+    );
+    assert_eq!(rt; first.commit(&mut store), Ok((2, 2)));
+    for (address, word) in [(0, 13), (8, 10), (9, 12), (16, 10), (24, 30)] {
+        assert_eq!(rt; store.memory().read(address), Ok(word), "at {address}");
+    }
     Ok(())
 }

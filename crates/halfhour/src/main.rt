@@ -1,15 +1,17 @@
-// One buoy report through its four steps, each a held job over the board book, and what happens to the outgoing
-// record without jobs.
+// One buoy report through its four steps over the board book: once with each step a held job, and once with each access
+// in a job of its own, where the outgoing record mixes two half hours.
 #![tactic(auto)]
 
+mod access;
 mod figures;
 mod steps;
 
+use access::{Alone, Station, in_job};
 use board::BoardBook;
 use fault::Fault;
 use memory::Plain;
 use std::io;
-use steps::{Figure, Reading, Station};
+use steps::{Figure, Reading};
 use store::Store;
 
 // half hour 1: its number, six bands of the spectrum, a spare word
@@ -25,6 +27,57 @@ const NEXT: Reading = Reading {
         value: 7100,
     },
 };
+
+// How the four steps went, and another job's offer of the next half hour in the midst of the fourth: none is made where
+// the fourth step's job is not even begun.
+#[derive(Clone, Copy)]
+struct Outcomes {
+    unpacked: Result<(), Fault>,
+    fitted: Result<(), Fault>,
+    checked: Result<(), Fault>,
+    offered: Option<Result<(), Fault>>,
+    record: Result<Reading, Fault>,
+}
+
+// Each step a job: the offer is refused, since the job of the fourth step has read the height.
+fn each_step_a_job(station: &mut Station) -> Outcomes {
+    let unpacked = in_job(station, 0, |station, job| {
+        steps::unpack(station, job, &FRAME_WORDS)
+    });
+    let fitted = in_job(station, 1, steps::fit);
+    let checked = in_job(station, 2, steps::check_quality);
+    let mut offered = None;
+    let record = in_job(station, 3, |station, job| {
+        steps::write_record(station, job, |station| {
+            offered = Some(steps::offer(station, 4, NEXT))
+        })
+    });
+    Outcomes {
+        unpacked,
+        fitted,
+        checked,
+        offered,
+        record,
+    }
+}
+
+// Each access a job of its own: nothing holds the height while the offer comes in.
+fn each_access_a_job(station: &mut Station) -> Outcomes {
+    let unpacked = steps::unpack(station, &Alone(0), &FRAME_WORDS);
+    let fitted = steps::fit(station, &Alone(1));
+    let checked = steps::check_quality(station, &Alone(2));
+    let mut offered = None;
+    let record = steps::write_record(station, &Alone(3), |station| {
+        offered = Some(steps::offer(station, 4, NEXT))
+    });
+    Outcomes {
+        unpacked,
+        fitted,
+        checked,
+        offered,
+        record,
+    }
+}
 
 // A refused step names the thread in words, in place of the fault's own text.
 fn print_refused(rt: &HostRuntime, what: &str, fault: Fault) -> io::Result<()> {
@@ -42,89 +95,39 @@ fn print_step(rt: &HostRuntime, what: &str, work: Result<(), Fault>) -> io::Resu
     }
 }
 
-fn print_record(rt: &HostRuntime, record: Result<Reading, Fault>) -> io::Result<()> {
+fn print_record(rt: &HostRuntime, what: &str, record: Result<Reading, Fault>) -> io::Result<()> {
     match record {
-        Ok(reading) => println!(rt; "outgoing record: {reading}"),
-        Err(fault) => print_refused(rt, "outgoing record", fault),
+        Ok(reading) => println!(rt; "{what}: {reading}"),
+        Err(fault) => print_refused(rt, what, fault),
     }
 }
 
-// The outgoing record, and how another job's offer went: none is made where the record's job is not even begun.
-#[derive(Clone, Copy)]
-struct Written {
-    record: Result<Reading, Fault>,
-    offered: Option<Result<(), Fault>>,
+fn print_outcomes(rt: &HostRuntime, outcomes: Outcomes) -> io::Result<()> {
+    print_step(rt, "thread 0 unpacks the frame", outcomes.unpacked)?;
+    print_step(rt, "thread 1 fits height and period", outcomes.fitted)?;
+    print_step(rt, "thread 2 checks their quality", outcomes.checked)?;
+    if let Some(offered) = outcomes.offered {
+        print_step(rt, "thread 4 offers half hour 2", offered)?;
+    }
+    print_record(rt, "outgoing record", outcomes.record)
 }
 
-// Fourth step: reads both figures and writes the outgoing record. Between the two, another job offers the next half
-// hour and is refused, since this one has read the height; the offer is made even if the height was refused.
-fn write_record(station: &mut Station) -> Written {
-    let mut offered = None;
-    let record = steps::in_job(station, 3, |station, job| {
-        let height = steps::load_figure(station, job, steps::HEIGHT);
-        offered = Some(steps::offer(station, 4, NEXT));
-        let height = height?;
-        let period = steps::load_figure(station, job, steps::PERIOD)?;
-        let record = Reading { height, period };
-        steps::store_reading(station, job, steps::RECORD, steps::RECORD + 2, record)?;
-        Ok(record)
-    });
-    Written { record, offered }
-}
-
-// One access in a job of its own.
-fn load_alone(station: &mut Station, place: u64) -> Result<u64, Fault> {
-    steps::in_job(station, 3, |station, job| job.load(station, place))
-}
-
-// As load_figure, but each word in a job of its own.
-fn figure_alone(station: &mut Station, place: u64) -> Result<Figure, Fault> {
-    let hour = load_alone(station, place)?;
-    let value = load_alone(station, place.wrapping_add(1))?;
-    Ok(Figure { hour, value })
-}
-
-// The same reading with each access in a job of its own: nothing holds the height while the next half hour comes in.
-fn write_without_a_job(station: &mut Station) -> Result<Reading, Fault> {
-    let height = figure_alone(station, steps::HEIGHT)?;
-    steps::offer(station, 4, NEXT)?;
-    let period = figure_alone(station, steps::PERIOD)?;
-    Ok(Reading { height, period })
-}
-
-fn first_steps(rt: &HostRuntime, station: &mut Station) -> io::Result<()> {
-    print_step(
-        rt,
-        "thread 0 unpacks the frame",
-        steps::unpack(station, 0, &FRAME_WORDS),
-    )?;
-    print_step(
-        rt,
-        "thread 1 fits height and period",
-        steps::fit(station, 1),
-    )?;
-    print_step(
-        rt,
-        "thread 2 checks their quality",
-        steps::check_quality(station, 2),
-    )
+// The outgoing record as it was written, read back in a job.
+fn print_written(rt: &HostRuntime, station: &mut Station) -> io::Result<()> {
+    let record = in_job(station, 5, steps::load_record);
+    print_record(rt, "thread 5 reads the outgoing record", record)
 }
 
 fn main(rt: HostRuntime) -> io::Result<()> {
     let table = Plain::over(vec![in rt.alloc(); 0; 512]?);
     let mut station = Store::fresh(table, BoardBook::new());
     println!(rt; "each step a job")?;
-    first_steps(&rt, &mut station)?;
-    let Written { record, offered } = write_record(&mut station);
-    if let Some(offered) = offered {
-        print_step(&rt, "thread 4 offers half hour 2", offered)?;
-    }
-    print_record(&rt, record)?;
+    print_outcomes(&rt, each_step_a_job(&mut station))?;
     let again = steps::offer(&mut station, 4, NEXT);
     print_step(&rt, "thread 4 begins again with half hour 2", again)?;
+    print_written(&rt, &mut station)?;
 
     println!(rt; "each access a job of its own")?;
-    first_steps(&rt, &mut station)?;
-    let mixed = write_without_a_job(&mut station);
-    print_record(&rt, mixed)
+    print_outcomes(&rt, each_access_a_job(&mut station))?;
+    print_written(&rt, &mut station)
 }

@@ -1,24 +1,19 @@
-// Three of the four steps on one report, each a held job; the fourth is `write_record` in main.
+// The four steps on one report, each written once for any way to reach the words, and another job's offer.
+use crate::access::{Access, Station, in_job};
 use crate::figures;
-use board::BoardBook;
 use fault::Fault;
-use held::HeldJob;
-use memory::Plain;
 use std::fmt;
-use store::Store;
-
-pub type Station = Store<Plain, BoardBook>;
 
 // where the steps keep their words: each place has a block of its own
 const FRAME: u64 = 0;
 
-pub const HEIGHT: u64 = 8;
+const HEIGHT: u64 = 8;
 
-pub const PERIOD: u64 = 16;
+const PERIOD: u64 = 16;
 
 const QUALITY: u64 = 24;
 
-pub const RECORD: u64 = 32;
+const RECORD: u64 = 32;
 
 // A figure with the number of its half hour beside it.
 #[derive(Clone, Copy)]
@@ -42,78 +37,60 @@ impl fmt::Display for Reading {
     }
 }
 
-// Runs the work as a held job, and ends it on the way that the work went: a commit if all was granted, otherwise an
-// abort.
-pub fn in_job<T: Drop, F: FnOnce(&mut Station, &HeldJob) -> Result<T, Fault> + Drop>(
-    station: &mut Station,
-    thread: u64,
-    work: F,
-) -> Result<T, Fault>
-    requires { F.IsAlwaysCallable work }
-{
-    let job = HeldJob::begin(station, thread)?;
-    let done = work(station, &job);
-    let ended = if done.is_ok() {
-        job.commit(station)
-    } else {
-        job.abort(station)
-    };
-    ended.and(done)
-}
-
-// station and job are two parameters: a job does not hold its store, so that several can be held.
-pub fn load_figure(station: &mut Station, job: &HeldJob, place: u64) -> Result<Figure, Fault> {
-    let hour = job.load(station, place)?;
-    let value = job.load(station, place.wrapping_add(1))?;
+fn load_figure<A: Access>(station: &mut Station, access: &A, place: u64) -> Result<Figure, Fault> {
+    let hour = access.load(station, place)?;
+    let value = access.load(station, place.wrapping_add(1))?;
     Ok(Figure { hour, value })
 }
 
-fn store_figure(
+// Each figure of the reading from a place of its own.
+fn load_reading<A: Access>(
     station: &mut Station,
-    job: &HeldJob,
+    access: &A,
+    height: u64,
+    period: u64,
+) -> Result<Reading, Fault> {
+    let height = load_figure(station, access, height)?;
+    let period = load_figure(station, access, period)?;
+    Ok(Reading { height, period })
+}
+
+fn store_figure<A: Access>(
+    station: &mut Station,
+    access: &A,
     place: u64,
     figure: Figure,
 ) -> Result<(), Fault> {
-    job.store(station, place, figure.hour)?;
-    job.store(station, place.wrapping_add(1), figure.value)
+    access.store(station, place, figure.hour)?;
+    access.store(station, place.wrapping_add(1), figure.value)
 }
 
 // Each figure of the reading at a place of its own.
-pub fn store_reading(
+fn store_reading<A: Access>(
     station: &mut Station,
-    job: &HeldJob,
+    access: &A,
     height: u64,
     period: u64,
     reading: Reading,
 ) -> Result<(), Fault> {
-    store_figure(station, job, height, reading.height)?;
-    store_figure(station, job, period, reading.period)
+    store_figure(station, access, height, reading.height)?;
+    store_figure(station, access, period, reading.period)
 }
 
 // First step: the words of a frame (half hour, six bands, a spare word) go into the table.
-pub fn unpack(station: &mut Station, thread: u64, frame: &[u64]) -> Result<(), Fault> {
-    in_job(station, thread, |station, job| {
-        store_frame(station, job, frame)
-    })
-}
-
-fn store_frame(station: &mut Station, job: &HeldJob, frame: &[u64]) -> Result<(), Fault> {
+pub fn unpack<A: Access>(station: &mut Station, access: &A, frame: &[u64]) -> Result<(), Fault> {
     for (place, word) in (FRAME..).zip(frame) {
-        job.store(station, place, *word)?;
+        access.store(station, place, *word)?;
     }
     Ok(())
 }
 
 // Second step: height and period of the frame, each beside the number of its half hour.
-pub fn fit(station: &mut Station, thread: u64) -> Result<(), Fault> {
-    in_job(station, thread, fit_frame)
-}
-
-fn fit_frame(station: &mut Station, job: &HeldJob) -> Result<(), Fault> {
-    let hour = job.load(station, FRAME)?;
+pub fn fit<A: Access>(station: &mut Station, access: &A) -> Result<(), Fault> {
+    let hour = access.load(station, FRAME)?;
     let mut bands = [0u64; 6];
     for (band, place) in bands.iter_mut().zip(FRAME + 1..) {
-        *band = job.load(station, place)?;
+        *band = access.load(station, place)?;
     }
     let height = Figure {
         hour,
@@ -123,17 +100,12 @@ fn fit_frame(station: &mut Station, job: &HeldJob) -> Result<(), Fault> {
         hour,
         value: figures::period(&bands),
     };
-    store_reading(station, job, HEIGHT, PERIOD, Reading { height, period })
+    store_reading(station, access, HEIGHT, PERIOD, Reading { height, period })
 }
 
 // Third step: 1 beside the half hour where both figures belong together and are plausible, else 0.
-pub fn check_quality(station: &mut Station, thread: u64) -> Result<(), Fault> {
-    in_job(station, thread, judge_figures)
-}
-
-fn judge_figures(station: &mut Station, job: &HeldJob) -> Result<(), Fault> {
-    let height = load_figure(station, job, HEIGHT)?;
-    let period = load_figure(station, job, PERIOD)?;
+pub fn check_quality<A: Access>(station: &mut Station, access: &A) -> Result<(), Fault> {
+    let Reading { height, period } = load_reading(station, access, HEIGHT, PERIOD)?;
     let good = height.hour == period.hour
         && height.value <= 30_000
         && (1_000..=30_000).contains(&period.value);
@@ -141,7 +113,30 @@ fn judge_figures(station: &mut Station, job: &HeldJob) -> Result<(), Fault> {
         hour: height.hour,
         value: good as u64,
     };
-    store_figure(station, job, QUALITY, verdict)
+    store_figure(station, access, QUALITY, verdict)
+}
+
+// Fourth step: reads both figures and writes the outgoing record. What comes between the two comes even if the height
+// was refused.
+pub fn write_record<A: Access, F: FnOnce(&mut Station) + Drop>(
+    station: &mut Station,
+    access: &A,
+    between: F,
+) -> Result<Reading, Fault>
+    requires { F.IsAlwaysCallable between }
+{
+    let height = load_figure(station, access, HEIGHT);
+    between(station);
+    let height = height?;
+    let period = load_figure(station, access, PERIOD)?;
+    let record = Reading { height, period };
+    store_reading(station, access, RECORD, RECORD + 2, record)?;
+    Ok(record)
+}
+
+// The outgoing record as it stands in the table.
+pub fn load_record<A: Access>(station: &mut Station, access: &A) -> Result<Reading, Fault> {
+    load_reading(station, access, RECORD, RECORD + 2)
 }
 
 // The next half hour's figures, offered in one job; given up whole where a part is refused.
