@@ -42,7 +42,7 @@ impl Access for Alone {
 
 // Runs the work as a held job, and ends it on the way that the work went: a commit if all was granted, otherwise an
 // abort.
-pub fn in_job<T: Drop, F: FnOnce(&mut Station, &HeldJob) -> Result<T, Fault> + Drop>(
+pub(crate) fn in_job<T: Drop, F: FnOnce(&mut Station, &HeldJob) -> Result<T, Fault> + Drop>(
     station: &mut Station,
     thread: u64,
     work: F,

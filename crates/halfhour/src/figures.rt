@@ -28,12 +28,12 @@ fn weighted_energy(bands: &[u64]) -> u64 {
 }
 
 // Significant wave height in millimetres: four times the root of the energy.
-pub fn height(bands: &[u64]) -> u64 {
+pub(crate) fn height(bands: &[u64]) -> u64 {
     energy(bands).isqrt().saturating_mul(4)
 }
 
 // Mean period in milliseconds: the root of energy over weighted energy. 0 for a flat sea.
-pub fn period(bands: &[u64]) -> u64 {
+pub(crate) fn period(bands: &[u64]) -> u64 {
     energy(bands)
         .saturating_mul(1_000_000_000_000)
         .checked_div(weighted_energy(bands))

@@ -78,7 +78,11 @@ fn store_reading<A: Access>(
 }
 
 // First step: the words of a frame (half hour, six bands, a spare word) go into the table.
-pub fn unpack<A: Access>(station: &mut Station, access: &A, frame: &[u64]) -> Result<(), Fault> {
+pub(crate) fn unpack<A: Access>(
+    station: &mut Station,
+    access: &A,
+    frame: &[u64],
+) -> Result<(), Fault> {
     for (place, word) in (FRAME..).zip(frame) {
         access.store(station, place, *word)?;
     }
@@ -86,7 +90,7 @@ pub fn unpack<A: Access>(station: &mut Station, access: &A, frame: &[u64]) -> Re
 }
 
 // Second step: height and period of the frame, each beside the number of its half hour.
-pub fn fit<A: Access>(station: &mut Station, access: &A) -> Result<(), Fault> {
+pub(crate) fn fit<A: Access>(station: &mut Station, access: &A) -> Result<(), Fault> {
     let hour = access.load(station, FRAME)?;
     let mut bands = [0u64; 6];
     for (band, place) in bands.iter_mut().zip(FRAME + 1..) {
@@ -104,7 +108,7 @@ pub fn fit<A: Access>(station: &mut Station, access: &A) -> Result<(), Fault> {
 }
 
 // Third step: 1 beside the half hour where both figures belong together and are plausible, else 0.
-pub fn check_quality<A: Access>(station: &mut Station, access: &A) -> Result<(), Fault> {
+pub(crate) fn check_quality<A: Access>(station: &mut Station, access: &A) -> Result<(), Fault> {
     let Reading { height, period } = load_reading(station, access, HEIGHT, PERIOD)?;
     let good = height.hour == period.hour
         && height.value <= 30_000
@@ -118,7 +122,7 @@ pub fn check_quality<A: Access>(station: &mut Station, access: &A) -> Result<(),
 
 // Fourth step: reads both figures and writes the outgoing record. What comes between the two comes even if the height
 // was refused.
-pub fn write_record<A: Access, F: FnOnce(&mut Station) + Drop>(
+pub(crate) fn write_record<A: Access, F: FnOnce(&mut Station) + Drop>(
     station: &mut Station,
     access: &A,
     between: F,
@@ -135,12 +139,12 @@ pub fn write_record<A: Access, F: FnOnce(&mut Station) + Drop>(
 }
 
 // The outgoing record as it stands in the table.
-pub fn load_record<A: Access>(station: &mut Station, access: &A) -> Result<Reading, Fault> {
+pub(crate) fn load_record<A: Access>(station: &mut Station, access: &A) -> Result<Reading, Fault> {
     load_reading(station, access, RECORD, RECORD + 2)
 }
 
 // The next half hour's figures, offered in one job; given up whole where a part is refused.
-pub fn offer(station: &mut Station, thread: u64, next: Reading) -> Result<(), Fault> {
+pub(crate) fn offer(station: &mut Station, thread: u64, next: Reading) -> Result<(), Fault> {
     in_job(station, thread, |station, job| {
         store_reading(station, job, HEIGHT, PERIOD, next)
     })
