@@ -8,18 +8,18 @@ use Rattle.std.specs.Option.{option_or}
 use Rattle.book.specs.Balance.{entered}
 use Rattle.book.specs.Picture.{credit_of, records_for}
 use Rattle.board.specs.Logged.{recorded}
-use Rattle.board.specs.declared.tokens.TokenRecord.{TokenRecord}
+use Rattle.board.specs.declared.record.TokenRecord.{TokenRecord}
 
 -- the credit on a block, as the sum of its records
 kept : (same : Bool) (r : TokenRecord) (rs : List TokenRecord) → sum (map (λ (r : TokenRecord). r.count.tokens) (cond same (r ∷ rs) rs)) ≡ cond same r.count.tokens 0 + sum (map (λ (r : TokenRecord). r.count.tokens) rs)
 kept true r rs = sum_by-cons (λ n. n) r.count.tokens (map (λ (r : TokenRecord). r.count.tokens) rs)
 kept false r rs = omega arith
 
-pub credit_sum : (b : ℕ) (rs : List TokenRecord) → sum (map (λ (r : TokenRecord). r.count.tokens) (filter (λ (r : TokenRecord). eqb r.block b) rs)) ≡ credit_of b (map recorded rs)
+pub credit_sum : (b : ℕ) (rs : List TokenRecord) → sum (map (λ (r : TokenRecord). r.count.tokens) (filter (λ (r : TokenRecord). eqb r.block.number b) rs)) ≡ credit_of b (map recorded rs)
 credit_sum b [] = refl
 credit_sum b (r ∷ rs) =
-    kept (eqb r.block b) r (filter (λ (r : TokenRecord). eqb r.block b) rs)
-    ∙ ap (λ n. cond (eqb r.block b) r.count.tokens 0 + n) (credit_sum b rs)
+    kept (eqb r.block.number b) r (filter (λ (r : TokenRecord). eqb r.block.number b) rs)
+    ∙ ap (λ n. cond (eqb r.block.number b) r.count.tokens 0 + n) (credit_sum b rs)
     ∙ sym (sum_by-cons (λ r. cond (eqb r.block b) r.count 0) (recorded r) (map recorded rs))
 
 -- a record is found where there is one
@@ -29,12 +29,12 @@ found (Some x) r n false e = e ∙ grind (arith, nat_tests)
 found None r n true e = grind (arith, nat_tests)
 found None r n false e = e ∙ grind (arith, nat_tests)
 
-pub latest_found : (k : ℕ) (rs : List TokenRecord) → is_some (latest_of (λ r. r.block) k rs) ≡ ltb 0 (records_for k (map recorded rs))
+pub latest_found : (k : ℕ) (rs : List TokenRecord) → is_some (latest_of (λ r. r.block.number) k rs) ≡ ltb 0 (records_for k (map recorded rs))
 unfolding latest_of
 latest_found k [] = refl
 latest_found k (r ∷ rs) =
-    ap is_some (latest_cons (λ x. x.block) k r rs)
-    ∙ found (latest_of (λ r. r.block) k rs) r (records_for k (map recorded rs)) (eqb r.block k) (latest_found k rs)
+    ap is_some (latest_cons (λ x. x.block.number) k r rs)
+    ∙ found (latest_of (λ r. r.block.number) k rs) r (records_for k (map recorded rs)) (eqb r.block.number k) (latest_found k rs)
     ∙ ap (ltb 0) (sym (sum_by-cons (λ r. cond (eqb r.block k) 1 0) (recorded r) (map recorded rs)))
 
 -- and there is one where there is credit

@@ -37,7 +37,11 @@ impl Block {
         requires { Coherent (marks_of self.old).home (marks_of self.old).copies }
         ensures { marks_of self.new ≡ gathered (marks_of self.old) }
     {
-        self.home = self.copies.into_iter().fold(self.home, fuse_copy);
+        // most blocks have no copy when a release comes to them
+        if !self.copies.iter().any(|copy| copy.is_some()) {
+            return;
+        }
+        self.home = self.copies.iter().copied().fold(self.home, fuse_copy);
         self.copies = [None; 4];
     }
 

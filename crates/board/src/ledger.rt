@@ -118,7 +118,7 @@ impl Ledger {
         let account = &mut accounts[thread.index()];
         let blocks = &mut self.blocks;
         blocks[block.index()].load(account.board, thread)?;
-        account.log.note(block.number(), Credit::new(1));
+        account.log.note(block, Credit::new(1));
         Ok(())
     }
 
@@ -152,7 +152,7 @@ impl Ledger {
             let account = &mut accounts[thread.index()];
             account
                 .log
-                .note(block.number(), Credit::new(TOKENS - credit.tokens()));
+                .note(block, Credit::new(TOKENS - credit.tokens()));
             return Ok(());
         }
         Err(Take::Store.refused_by(self.other_holder(thread, block).unwrap()))
@@ -189,18 +189,15 @@ impl Ledger {
     }
 }
 
-// Gathers each block on which the log has credit, and takes that credit off its debit.
+// Takes each record's count off the debit of its block, which is gathered first. Record by record, since a log has few of the 64 blocks;
+// a block's second record finds it gathered.
 fn relieve(blocks: &mut [Block; 64], log: &TokenLog)
-    requires limit { (b : ℕ) → b < 64 → credit_of b (records_in log.now) ≤ 64 }
     requires coherent { (b : ℕ) → b < 64 → Coherent (marks_in blocks.old b).home (marks_in blocks.old b).copies }
-    requires left { (b : ℕ) → b < 64 → 0 < credit_of b (records_in log.now) → debit_of (gathered (marks_in blocks.old b)).home - credit_of b (records_in log.now) < 64 }
     ensures { marks_in blocks.new ≡ relieved_to 64 (marks_in blocks.old) (records_in log.now) }
 {
-    'each: for (number, block) in blocks.iter_mut().enumerate() {
-        let credit = log.credit(number as u64);
-        if credit.tokens() > 0 {
-            block.gather();
-            block.relieve(credit);
-        }
+    'each: for record in log.records() {
+        let block = &mut blocks[record.block.index()];
+        block.gather();
+        block.relieve(record.count);
     }
 }

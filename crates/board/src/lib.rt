@@ -14,6 +14,7 @@ use ledger::Ledger;
 
 mod block;
 mod ledger;
+mod record;
 mod tokens;
 
 // Keeps every token twice: as a debit on the marks of its block, and as a credit in the token log

@@ -1,26 +1,13 @@
 // Token logs: the tokens that one thread took.
-ghost use Rattle.std.specs.Prelude.{◌≡◌, ◌<◌, ◌≤◌, true, [], ◌∷◌, ◌++◌, length, nat_lt};
+ghost use Rattle.std.specs.Prelude.{◌≡◌, ◌<◌, ◌≤◌, true, [], ◌∷◌, ◌++◌, map, length, nat_lt};
 ghost use Rattle.book.specs.Balance.{entered};
 ghost use Rattle.book.specs.Picture.{credit_of, records_for};
-ghost use Rattle.board.specs.Logged.{records_in};
+ghost use Rattle.board.specs.Logged.{recorded, records_in};
 
+use crate::record::TokenRecord;
+use book::{BlockNumber, check_block};
 use marks::Credit;
 use record_log::{Keyed, Log};
-
-// Tokens of one block, taken at one time.
-#[derive(Clone, Copy)]
-pub(crate) struct TokenRecord {
-    block: u64,
-    count: Credit,
-}
-
-impl Keyed for TokenRecord {
-    ghost keyed = { λ r. r.block };
-
-    fn key(&self) -> u64 {
-        self.block
-    }
-}
 
 // At most two records concern one of the 64 blocks, so the log is never full.
 #[derive(Clone, Copy)]
@@ -32,10 +19,7 @@ impl TokenLog {
     pub(crate) fn new() -> TokenLog
         ensures { records_in result ≡ [] }
     {
-        let filler = TokenRecord {
-            block: 0,
-            count: Credit::new(0),
-        };
+        let filler = TokenRecord::new(check_block(0).unwrap(), Credit::new(1));
         TokenLog {
             records: Log::new(filler),
         }
@@ -49,7 +33,7 @@ impl TokenLog {
         self.records
             .records()
             .iter()
-            .filter(|record| record.block == block)
+            .filter(|record| record.key() == block)
             .map(|record| record.count)
             .fold(Credit::new(0), Credit::plus)
     }
@@ -62,12 +46,20 @@ impl TokenLog {
         self.records.latest(block).is_some()
     }
 
-    // Adds a record at the end.
-    pub(crate) fn note(&mut self, block: u64, count: Credit)
-        requires { length (records_in self.old) < 128 }
-        ensures { records_in self.new ≡ records_in self.old ++ record { block = block; count = count.tokens } ∷ [] }
+    // The records, oldest first.
+    pub(crate) fn records(&self) -> &[TokenRecord]
+        ensures { map recorded result.now ≡ records_in self.now }
     {
-        self.records.push(TokenRecord { block, count }).unwrap();
+        self.records.records()
+    }
+
+    // Adds a record at the end.
+    pub(crate) fn note(&mut self, block: BlockNumber, count: Credit)
+        requires room { length (records_in self.old) < 128 }
+        requires some { 0 < count.tokens }
+        ensures { records_in self.new ≡ records_in self.old ++ record { block = block.number; count = count.tokens } ∷ [] }
+    {
+        self.records.push(TokenRecord::new(block, count)).unwrap();
     }
 
     // How many records there are.

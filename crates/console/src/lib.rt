@@ -38,8 +38,8 @@ fn add_row(report: &mut [u8], fill: usize, line: u64, outcome: Result<Answer, Fa
     put_row(&mut report[fill..], line, outcome).unwrap()
 }
 
-// A rule of the project: the caller lends the report, so it goes with its fill mark.
 // How far a script came: the bytes of the report that are filled, and the refusal by which it stopped early.
+// The report stays the caller's, so a run answers its fill mark beside it.
 #[derive(Clone, Copy, PartialEq, Eq, Debug)]
 pub struct Ran {
     pub fill: usize,

@@ -2,7 +2,7 @@
 use Rattle.std.proofs.Common.{◌≡◌, ℕ, zero, suc, ◌+◌, ◌<◌, ◌≤◌, cond, ltb, Bool, All, List, [], length, get_or, set, take, replicate, count_by, sym, ap, ◌∙◌, refl, subst, ⊎_elim, add-one, arith}
 use mathlib.Core.Path.{fun_ext}
 use Rattle.std.proofs.lemmas.List.{get_or-replicate, length-replicate, get_or_past, take_all}
-use Rattle.std.proofs.lemmas.List.Elements.{All-get_or}
+use Rattle.std.proofs.lemmas.List.Elements.{All-get_or, All-replicate}
 use Rattle.std.proofs.lemmas.List.Sums.{sum_by_more}
 use Rattle.std.proofs.lemmas.Bool.{cases_lt}
 use Rattle.std.proofs.lemmas.Bool.Decides.{nat_tests}
@@ -25,6 +25,12 @@ none_held n m = fun_ext (λ t. fun_ext (λ b. ⊎_elim (λ (l : t < n). rw (get_
 -- and it is sound
 pub none_sound : (n m : ℕ) → Sound (held_in (replicate n (replicate m Nothing)))
 none_sound n m = rw (none_held n m) (record { counted = λ t b l k. refl; alone = λ t u b l k v ne e. refl })
+
+pub fresh_held : held_in (replicate 16 (replicate 64 Nothing)) ≡ (λ t b. 0)
+fresh_held = none_held 16 64
+
+pub fresh_kept : record { sixteen : length (replicate 16 (replicate 64 Nothing)) ≡ 16; whole : All (λ row. length row ≡ 64) (replicate 16 (replicate 64 Nothing)); sound : ∥ Sound (held_in (replicate 16 (replicate 64 Nothing))) ∥₁ }
+fresh_kept = record { sixteen = refl; whole = All-replicate (λ row. length row ≡ 64) 16 (replicate 64 Nothing) refl; sound = ∣ none_sound 16 64 ∣₁ }
 
 -- one cell written, at its thread's place and its block's
 pub written : (rows : List (List Holding)) (t b v i j : ℕ) (h : Holding) → i ≡ t → j ≡ b → tokens_of h ≡ v → t < length rows → b < 64 → All (λ row. length row ≡ 64) rows → held_in (set rows i (set (get_or rows i []) j h)) ≡ put (held_in rows) t b v

@@ -19,6 +19,7 @@ mod table;
 
 impl FullBook {
     // A book in which nothing is held.
+    #[tactic(auto, using(crate::proofs::Rows::fresh_held, crate::proofs::Rows::fresh_kept))]
     pub fn new() -> FullBook
         ensures { held_in result.rows ≡ (λ t b. 0) }
     {

@@ -62,6 +62,7 @@ impl Debit {
     }
 
     // How the debit compares with the credit: an Option, as PartialOrd answers, and never None.
+    // A method, as equals is: `<`, like `==`, compares values of one type alone.
     pub fn compares(&self, other: &Credit) -> Option<Ordering>
         ensures { IsSomeAnd result (λ o. MatchOrdering o (self.now.tokens < other.now.tokens) (self.now.tokens ≡ other.now.tokens) (other.now.tokens < self.now.tokens)) }
     {

@@ -96,7 +96,6 @@ fn numbers_of(command: Command, line: &[u8]) -> Result<Call, Fault>
 }
 
 // The number in the field at a position.
-// A rule of the project: `let .. else` takes each number field.
 fn number_at(line: &[u8], position: u64) -> Result<u64, Fault>
     requires { 0 < position }
     ensures { result ≡ number_at (fields_of line.now) position }

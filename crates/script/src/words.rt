@@ -5,7 +5,7 @@ ghost use Rattle.script.specs.Pieces.{FieldLaw, fields_of};
 ghost use Rattle.script.specs.Words.{FieldAt, bytes_of, leads, position_of};
 
 // A field: bytes borrowed from its line, and its position there, counted from 1.
-// A rule of the project: words are an enum of borrowed bytes with their position.
+// Two cases, so that the letter is never taken for a number.
 #[derive(Clone, Copy)]
 pub enum Word<'a> {
     // the first field, which names the command

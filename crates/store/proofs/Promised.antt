@@ -53,4 +53,5 @@ module _ (m : List ℕ) (h : History) (s : State) (reached : Reached m h s) wher
         ended_loads = reached.ended_loads;
         open_loads = open_loads;
         held = reached.held;
+        reached = reached;
       }

@@ -17,7 +17,7 @@ use Rattle.store.specs.declared.Turn.{Turn}
 use Rattle.store.specs.States.{State, state_of, block_of}
 use Rattle.store.specs.Histories.{History, Told, Event, Access, events, sightings, job_of, serial_words, latest_store, stored_in, touched, Agrees, EndedLoads}
 use Rattle.store.specs.Rules.{Answers, open_rule, address_rule, room_rule, stored_by_other, touched_by_other}
-use Rattle.store.specs.Reached.{holding_of}
+use Rattle.store.specs.Reached.{Reached, holding_of}
 
 -- no open job's latest store at the address gave a word other than the serial one
 abbrev pub NoOtherWord : List ℕ → History → ℕ → Type 0
@@ -59,6 +59,8 @@ pub record Promised (m : List ℕ) (h : History) (s : State) : Type 0 where
   pub open_loads : (t : ℕ) → Agrees (serial_words m (events h)) (job_of (sightings h) t)
   -- the book's holdings are what the open jobs were granted
   pub held : (t b : ℕ) → t < 16 → s.holds t b ≡ holding_of (job_of (events h) t) b
+  -- the thread table is at the history's end too, so that the promises go on with whatever call comes next
+  pub reached : Reached m h s
 
 -- the book went through the history by its own moves, one for each turn that asked it, and held at each turn what
 -- the open jobs had been granted

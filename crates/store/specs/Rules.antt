@@ -17,7 +17,7 @@ use Rattle.store.specs.declared.Call.TheVariants.{Begin, Load, Store, Commit, Ab
 abbrev pub on_thread : ℕ → Verdict → Verdict
 on_thread t next = cond (nat_lt t 16) next (refused (ThreadOutOfRange t))
 
--- begin needs a thread without an open job, and every other call one with it
+-- begin needs a thread without an open job; load, store, commit and abort need one with it
 abbrev pub begin_rule : List (Event Access) → ℕ → Verdict
 begin_rule es t = on_thread t (cond (is_some (open_job es t)) (refused (JobOpen t)) allowed)
 

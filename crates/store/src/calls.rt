@@ -68,7 +68,7 @@ impl<M: Memory, B: Book> Store<M, B> {
     }
 
     // Ends the thread's job for good: records dropped, and the book's figure.
-    // A rule of the project: commit and abort answer a tuple of two counts.
+    // A pair, since a type of its own would only name the two counts again.
     pub fn commit(&mut self, thread: u64) -> Result<(u64, u64), Fault>
         ensures answer { Answered (state_of M.Memory.words B.Book.holding self.old) (CommitCall thread) (ended_of result) }
         ensures leaves { Leaves M.Memory.words M.Memory.beyond B.Book.holding B.Book.moves self.old (CommitCall thread) (ended_of result) self.new }

@@ -102,7 +102,7 @@ fn index_of(thread: u64) -> Result<usize, Fault>
     Ok(thread as usize)
 }
 
-// Refuses a number that is no thread's.
+// Refuses a number that is no thread's. As index_of, not the books' check.
 pub fn check_thread(thread: u64) -> Result<(), Fault>
     ensures { result ≡ thread_in thread }
 {

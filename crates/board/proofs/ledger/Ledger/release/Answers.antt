@@ -2,25 +2,17 @@ use Rattle.std.proofs.Common.{◌≡◌, ◌<◌, length, get_or, sym, refl, ap,
 use Rattle.book.specs.Balance.{Balanced}
 use Rattle.book.specs.Picture.{holdings_of}
 use Rattle.book.proofs.Balances.{agrees_coherent, order_figure}
-use Rattle.book.proofs.Releases.{relieve_range, release_holds, release_balanced}
+use Rattle.book.proofs.Releases.{release_holds, release_balanced}
 use Rattle.board.specs.Drawn.{drawn}
 use Rattle.board.specs.declared.ledger.Account.{Account}
 use Rattle.board.proofs.Drawings.{log_at, released-drawn}
-use Rattle.board.proofs.Ledgers.{balance_of, limit_in}
+use Rattle.board.proofs.Ledgers.{balance_of}
 use Rattle.board.proofs.ledger.Ledger.release.Goals as goal
 
 pub relieve-requires : goal.relieve-requires
 relieve-requires c =
-    let k = c.args.self.now in
-    let p = drawn k in
-    let t = c.args.thread.number in
-    let l : c.index.result < length k.accounts = search rules in
-    let log = log_at k.accounts t c.index.result c.index-accounts-index.result c.index.ensures.value l in
-    record {
-      limit = λ b n. rw (sym log) (limit_in k t b c.args.thread.range n);
-      coherent = λ b n. agrees_coherent (p.marks b).home (p.marks b).copies (λ u. holdings_of p u b) ((balance_of k).agrees b n);
-      left = λ b n. rw (sym log) (relieve_range p t b (balance_of k) n);
-    }
+    let p = drawn c.args.self.now in
+    record { coherent = λ b n. agrees_coherent (p.marks b).home (p.marks b).copies (λ u. holdings_of p u b) ((balance_of c.args.self.now).agrees b n) }
 
 pub invariant_of-self : goal.invariant_of-self
 invariant_of-self c =

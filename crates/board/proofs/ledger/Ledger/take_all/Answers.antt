@@ -27,7 +27,10 @@ note-requires c =
     let b = c.args.block.number in
     let l : c.index-then-store.result < length k.accounts = search rules in
     let w = stores_in k c.args.thread c.args.block c.args.credit.tokens c.requires.own c.requires.short in
-    rw (log_at k.accounts t c.index-then-store.result c.index-accounts-index.result c.index-then-store.ensures.value l) at w.room
+    record {
+      room = rw (log_at k.accounts t c.index-then-store.result c.index-accounts-index.result c.index-then-store.ensures.value l) at w.room;
+      some = search rules;
+    }
 
 pub invariant_of-self : goal.invariant_of-self
 invariant_of-self c =
@@ -41,7 +44,7 @@ invariant_of-self c =
     let w = stores_in k c.args.thread c.args.block c.args.credit.tokens c.requires.own c.requires.short in
     let s : Storing k.blocks k.accounts t b _ c.gather.new.self c.store.new.self _ _ true = storing c.index.ensures.value m c.gather.ensures c.if-store.ensures.after c.if-store.ensures.answer c.requires.own in
     let a : Account = record { board = (get_or k.accounts i e).board; log = c.note.new.self } in
-    let after = store_granted_drawn a e s c.index-then-store.ensures.value l c.number.ensures.value (c.new.ensures ∙ ap (λ n. 64 - n) c.tokens.ensures) refl c.note.ensures in
+    let after = store_granted_drawn a e s c.index-then-store.ensures.value l refl (c.new.ensures ∙ ap (λ n. 64 - n) c.tokens.ensures) refl c.note.ensures in
     record { balanced = ∣ subst Balanced (sym after) w.kept ∣₁ }
 
 pub returns-then-store : goal.returns-then-store
@@ -58,7 +61,7 @@ returns-then-store c =
     let a : Account = record { board = (get_or k.accounts i e).board; log = c.note.new.self } in
     record {
       answer = w.grants (store_own s);
-      after = store_granted_drawn a e s c.index-then-store.ensures.value l c.number.ensures.value (c.new.ensures ∙ ap (λ n. 64 - n) c.tokens.ensures) refl c.note.ensures;
+      after = store_granted_drawn a e s c.index-then-store.ensures.value l refl (c.new.ensures ∙ ap (λ n. 64 - n) c.tokens.ensures) refl c.note.ensures;
     }
 
 pub invariant_of-self-else-store : goal.invariant_of-self-else-store

@@ -54,7 +54,10 @@ note-requires c =
     let k = c.args.self.now in
     let t = c.args.thread.number in
     let l : c.index.result < length k.accounts = search rules in
-    rw (log_at k.accounts t c.index.result c.index-accounts-index.result c.index.ensures.value l) at (loads_in k c.args.thread c.args.block c.requires).room
+    record {
+      room = rw (log_at k.accounts t c.index.result c.index-accounts-index.result c.index.ensures.value l) at (loads_in k c.args.thread c.args.block c.requires).room;
+      some = search rules;
+    }
 
 pub invariant_of-self-2 : goal.invariant_of-self-2
 invariant_of-self-2 c =
@@ -65,7 +68,7 @@ invariant_of-self-2 c =
     let m : c.index-2.result < length k.blocks = search rules in
     let w : Loading k.blocks k.accounts t b _ _ _ _ _ = loading c.index.ensures.value l c.index-2.ensures.value m c.load.ensures.after in
     let a : Account = record { board = (get_or k.accounts c.index.result c.index-accounts-index.result).board; log = c.note.new.self } in
-    let after = load_granted_drawn a w (sym c.load.ensures.answer ∙ c.in_ok-load.was) c.number.ensures.value c.new.ensures refl c.note.ensures in
+    let after = load_granted_drawn a w (sym c.load.ensures.answer ∙ c.in_ok-load.was) refl c.new.ensures refl c.note.ensures in
     record { balanced = ∣ subst Balanced (sym after) (loads_in k c.args.thread c.args.block c.requires).kept ∣₁ }
 
 pub returns : goal.returns
@@ -82,5 +85,5 @@ returns c =
     let answered : load_answer (copy_or_split (marks_of (get_or k.blocks c.index-2.result c.index-blocks-index.result)) (seat_of (get_or k.accounts c.index.result c.index-accounts-index.result))) ≡ Ok c.in_ok-load.field-0 = sym c.load.ensures.answer ∙ c.in_ok-load.was in
     record {
       answer = sym answered ∙ (rw (here, sits) at (loads_in k c.args.thread c.args.block c.requires).answer);
-      after = load_granted_drawn a w answered c.number.ensures.value c.new.ensures refl c.note.ensures;
+      after = load_granted_drawn a w answered refl c.new.ensures refl c.note.ensures;
     }
