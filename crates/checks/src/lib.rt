@@ -4,6 +4,8 @@
 #[cfg(test)]
 mod books;
 #[cfg(test)]
+mod examples_answered;
+#[cfg(test)]
 mod faults;
 #[cfg(test)]
 mod marks_fused;

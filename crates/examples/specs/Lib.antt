@@ -1,0 +1,3 @@
+pub mod Fusions
+pub mod Jobs
+pub mod Examples
