@@ -1,0 +1,62 @@
+use Rattle.std.proofs.Common.{◌≡◌, ◌*◌, ◌+◌, ◌-◌, ◌/◌, ◌++◌, [], min, length, take, drop, refl, sym, ap, ◌∙◌, arith}
+use Rattle.lent.specs.Numbers.{calls_of}
+use Rattle.lent.proofs.Made.{groups_are, calls_from, none_from, sofar_none, sofar_more, sofar_all, turns_of}
+use Rattle.lent.proofs.Tables.{lent_is, rest_is, same_length}
+use Rattle.lent.proofs.replays.replay.Goals as goal
+use Rattle.lent.proofs.replays.replay.Goals.{else-loop-group-test, then-loop-group-test+in_default}
+
+pub loop-group-init : goal.loop-group-init
+loop-group-init g c = record {
+  counted = refl;
+  far = sofar_none _ _ _ _ _ _ _ _ c.fresh-store.ensures.memory c.fresh-store.ensures.start;
+}
+
+pub loop-group-preserved : goal.loop-group-preserved
+loop-group-preserved g c =
+    let l = c.loop-group in
+    let four : 4 * l.made + 4 - 4 * l.made ≡ 4 = omega arith in
+    let is = calls_from _ l.made l.group-index l.invariant.counted _ c.loop-group-test.true (sym c.in-Some.is ∙ c.call_of.ensures) in
+    let wrote = c.copy_from_slice.ensures.after ∙ c.numbers_of.ensures in
+    record {
+      counted = ap (λ n. n + 1) l.invariant.counted;
+      far = sofar_more _ _ _ _ _ _ _ l.made l.answers l.store l.invariant.far c.in-Some.call c.call.result _ _ is (λ k. take (4 * l.made) l.answers ++ (wrote k ++ drop (four k) (drop (4 * l.made) l.answers))) c.call.ensures.leaves c.call.ensures.step;
+    }
+
+pub copy_from_slice-requires-2 : goal.copy_from_slice-requires-2
+copy_from_slice-requires-2 g c =
+    let far = c.loop-group.invariant.far in
+    let e = same_length c.fresh-store.result.memory.buffer.items c.loop-group.store.memory.buffer.items far.reached.size far.untouched in
+    let m = c.memory.ensures in
+    let b = c.buffer.ensures in
+    let f = c.fresh-store.ensures.memory in
+    let o = c.over-image.ensures in
+    let s = c.in_ok-from_slice.ensures.items in
+    cc
+
+pub returns-clause-made : goal.returns-clause-made
+returns-clause-made g c =
+    let l = c.loop-group in
+    let far = l.invariant.far in
+    let bytes : c.min-bytes.result ≡ min (length c.args.table.now) 4096 = omega (arith, c.min-bytes.ensures) in
+    let front_len = c.as_chunks.ensures.front_len in
+    let room : c.min-room.result ≡ min (length c.args.calls.now / 4) (length c.args.answers.now / 4) = omega (arith, c.min-room.ensures, front_len) in
+    let gs = groups_are c.args.calls.now c.args.answers.now c.as_chunks.result.0.now c.min-room.result c.as_chunks.ensures.front room in
+    let none : calls_of (drop l.made (take c.min-room.result c.as_chunks.result.0.now)) ≡ [] = elim c.loop-group-test.branch [
+      | else-loop-group-test w ↦ none_from _ l.made l.group-index l.invariant.counted (omega arith)
+      | then-loop-group-test+in_default w ↦ calls_from _ l.made l.group-index l.invariant.counted _ w.loop-group-test.true (sym w.in_default.is ∙ w.call_of.ensures)
+    ] in
+    record {
+      memory = c.over-image.result;
+      store = l.store;
+      turns = turns_of far.history;
+      lent = ap (λ v. v.items) c.over-image.ensures ∙ c.in_ok-from_slice.ensures.items ∙ lent_is c.args.table.now c.min-bytes.result bytes;
+      kept = sofar_all _ _ _ _ _ _ _ l.made l.answers l.store far _ _ c.fresh-store.ensures.memory c.fresh-store.ensures.book none _ gs;
+      given_back =
+          let after = c.copy_from_slice-2.ensures.after in
+          let b = c.buffer.ensures in
+          let m = c.memory.ensures in
+          let rest = rest_is c.args.table.now c.min-bytes.result bytes in
+          cc;
+      counted = far.many;
+      answered = far.written;
+    }
