@@ -1,123 +1,127 @@
 // Both books on the same worked sequences: the same answers and holdings, each with its own figures.
 use board::BoardBook;
 use book::{Book, Marked};
-use fault::{Layer, Refusal};
+use fault::{Fault, Layer, Refusal};
 use full::FullBook;
 use std::process::Abort;
 use std::test::Fail;
 
-// Loads from several boards, a refused store, drops, and a store once the other readers are gone. Answers the figure
-// of the last release, of a thread that loaded a block and then stored there, and loaded another.
-fn worked<B: Book>(rt: &impl Abort, book: &mut B) -> Result<u64, Fail> {
-    assert_eq!(rt; book.seat(1, 1), Ok(()));
-    assert_eq!(rt; book.seat(2, 3), Ok(()));
-    assert_eq!(rt; book.take_for_load(1, 5), Ok(()));
-    assert_eq!(rt; book.take_for_load(2, 5), Ok(()));
-    assert_eq!(rt; book.take_for_load(0, 5), Ok(()));
-    assert_eq!(rt; book.held(2, 5), Ok(1));
-    assert_eq!(rt;
-        book.take_for_store(2, 5),
-        Err(Layer::Book.refuses(Refusal::StoreConflict(0)))
-    );
-    assert_eq!(rt;
-        book.held(2, 5),
-        Ok(1),
-        "a refused store keeps the token of its load"
-    );
-    assert_eq!(rt; book.drop_copy(3, 5), Ok(()));
-    assert_eq!(rt; book.drop_copy(0, 5), Ok(()));
-    assert_eq!(rt; book.release(0), Ok(1));
-    assert_eq!(rt;
-        book.take_for_store(2, 5),
-        Err(Layer::Book.refuses(Refusal::StoreConflict(1)))
-    );
-    assert_eq!(rt; book.release(1), Ok(1));
-    assert_eq!(rt; book.take_for_store(2, 5), Ok(()));
-    assert_eq!(rt; book.held(2, 5), Ok(64));
-    assert_eq!(rt;
-        book.take_for_load(7, 5),
-        Err(Layer::Book.refuses(Refusal::LoadConflict(2)))
-    );
-    assert_eq!(rt; book.take_for_load(2, 5), Ok(()));
-    assert_eq!(rt; book.take_for_load(2, 63), Ok(()));
-    let figure = book.release(2)?;
-    assert_eq!(rt; book.held(2, 5), Ok(0));
-    assert_eq!(rt; book.take_for_load(7, 5), Ok(()));
-    Ok(figure)
+// What is asked of a book, with the numbers in the order of its methods.
+#[derive(Clone, Copy, Debug)]
+enum Asked {
+    Load(u64, u64),
+    Store(u64, u64),
+    Release(u64),
+    Held(u64, u64),
+    Seat(u64, u64),
+    Drop(u64, u64),
 }
 
-// Thread, board and block are refused in this order, before anything else is looked at: here by the takes.
-fn edges_of_takes<B: Book>(rt: &impl Abort, book: &mut B) {
-    assert_eq!(rt;
-        book.take_for_load(16, 64),
-        Err(Layer::Book.refuses(Refusal::ThreadOutOfRange(16)))
-    );
-    assert_eq!(rt;
-        book.take_for_load(15, 64),
-        Err(Layer::Book.refuses(Refusal::BlockOutOfRange(64)))
-    );
-    assert_eq!(rt; book.take_for_load(15, 63), Ok(()));
-    assert_eq!(rt;
-        book.take_for_store(u64::MAX, 0),
-        Err(Layer::Book.refuses(Refusal::ThreadOutOfRange(u64::MAX)))
-    );
-    assert_eq!(rt;
-        book.take_for_store(0, u64::MAX),
-        Err(Layer::Book.refuses(Refusal::BlockOutOfRange(u64::MAX)))
+// The book's answer: no number where it only grants.
+fn answer_of<B: Book>(book: &mut B, asked: Asked) -> Result<Option<u64>, Fault> {
+    match asked {
+        Asked::Load(thread, block) => book.take_for_load(thread, block).map(|()| None),
+        Asked::Store(thread, block) => book.take_for_store(thread, block).map(|()| None),
+        Asked::Release(thread) => book.release(thread).map(Some),
+        Asked::Held(thread, block) => book.held(thread, block).map(Some),
+        Asked::Seat(thread, board) => book.seat(thread, board).map(|()| None),
+        Asked::Drop(board, block) => book.drop_copy(board, block).map(|()| None),
+    }
+}
+
+const DONE: Result<Option<u64>, Fault> = Ok(None);
+
+fn refused(refusal: Refusal) -> Result<Option<u64>, Fault> {
+    Err(Layer::Book.refuses(refusal))
+}
+
+fn answers<B: Book>(
+    rt: &impl Abort,
+    book: &mut B,
+    expected: &[(Asked, Result<Option<u64>, Fault>)],
+) {
+    for (asked, answer) in expected {
+        assert_eq!(rt; answer_of(book, *asked), *answer, "{asked:?}");
+    }
+}
+
+// Loads from several boards, a refused store, drops, and a store once the other readers are gone. The last release is
+// of a thread that loaded a block and then stored there, and loaded another: its figure is the book's own.
+fn worked<B: Book>(rt: &impl Abort, book: &mut B, figure: u64) {
+    answers(
+        rt,
+        book,
+        &[
+            (Asked::Seat(1, 1), DONE),
+            (Asked::Seat(2, 3), DONE),
+            (Asked::Load(1, 5), DONE),
+            (Asked::Load(2, 5), DONE),
+            (Asked::Load(0, 5), DONE),
+            (Asked::Held(2, 5), Ok(Some(1))),
+            (Asked::Store(2, 5), refused(Refusal::StoreConflict(0))),
+            // a refused store keeps the token of its load
+            (Asked::Held(2, 5), Ok(Some(1))),
+            (Asked::Drop(3, 5), DONE),
+            (Asked::Drop(0, 5), DONE),
+            (Asked::Release(0), Ok(Some(1))),
+            (Asked::Store(2, 5), refused(Refusal::StoreConflict(1))),
+            (Asked::Release(1), Ok(Some(1))),
+            (Asked::Store(2, 5), DONE),
+            (Asked::Held(2, 5), Ok(Some(64))),
+            (Asked::Load(7, 5), refused(Refusal::LoadConflict(2))),
+            (Asked::Load(2, 5), DONE),
+            (Asked::Load(2, 63), DONE),
+            (Asked::Release(2), Ok(Some(figure))),
+            (Asked::Held(2, 5), Ok(Some(0))),
+            (Asked::Load(7, 5), DONE),
+        ],
     );
 }
 
-// As edges_of_takes, by the other calls.
-fn edges_of_other_calls<B: Book>(rt: &impl Abort, book: &mut B) {
-    assert_eq!(rt;
-        book.release(16),
-        Err(Layer::Book.refuses(Refusal::ThreadOutOfRange(16)))
-    );
-    assert_eq!(rt;
-        book.held(16, 0),
-        Err(Layer::Book.refuses(Refusal::ThreadOutOfRange(16)))
-    );
-    assert_eq!(rt;
-        book.held(0, 64),
-        Err(Layer::Book.refuses(Refusal::BlockOutOfRange(64)))
-    );
-    assert_eq!(rt;
-        book.seat(16, 4),
-        Err(Layer::Book.refuses(Refusal::ThreadOutOfRange(16)))
-    );
-    assert_eq!(rt;
-        book.seat(0, 4),
-        Err(Layer::Book.refuses(Refusal::BoardOutOfRange(4)))
-    );
-    assert_eq!(rt;
-        book.drop_copy(4, 64),
-        Err(Layer::Book.refuses(Refusal::BoardOutOfRange(4)))
-    );
-    assert_eq!(rt;
-        book.drop_copy(3, 64),
-        Err(Layer::Book.refuses(Refusal::BlockOutOfRange(64)))
+// Thread, board and block are refused in this order, before anything else is looked at.
+fn edges<B: Book>(rt: &impl Abort, book: &mut B) {
+    let no_thread = refused(Refusal::ThreadOutOfRange(16));
+    let no_board = refused(Refusal::BoardOutOfRange(4));
+    let no_block = refused(Refusal::BlockOutOfRange(64));
+    answers(
+        rt,
+        book,
+        &[
+            (Asked::Load(16, 64), no_thread),
+            (Asked::Load(15, 64), no_block),
+            (Asked::Load(15, 63), DONE),
+            (
+                Asked::Store(u64::MAX, 0),
+                refused(Refusal::ThreadOutOfRange(u64::MAX)),
+            ),
+            (
+                Asked::Store(0, u64::MAX),
+                refused(Refusal::BlockOutOfRange(u64::MAX)),
+            ),
+            (Asked::Release(16), no_thread),
+            (Asked::Held(16, 0), no_thread),
+            (Asked::Held(0, 64), no_block),
+            (Asked::Seat(16, 4), no_thread),
+            (Asked::Seat(0, 4), no_board),
+            (Asked::Drop(4, 64), no_board),
+            (Asked::Drop(3, 64), no_block),
+        ],
     );
 }
 
 #[test]
-fn full_book(rt: HostRuntime) -> Result<(), Fail> {
+fn full_book(rt: HostRuntime) {
     let mut book = FullBook::new();
-    assert_eq!(rt; worked(&rt, &mut book)?, 2);
-    edges_of_takes(&rt, &mut book);
-    edges_of_other_calls(&rt, &mut book);
-    Ok(())
+    worked(&rt, &mut book, 2);
+    edges(&rt, &mut book);
 }
 
 #[test]
-fn board_book(rt: HostRuntime) -> Result<(), Fail> {
+fn board_book(rt: HostRuntime) {
     let mut book = BoardBook::new();
-    assert_eq!(rt;
-        worked(&rt, &mut book)?,
-        3,
-        "a block loaded and then stored to has two records"
-    );
-    edges_of_takes(&rt, &mut book);
-    edges_of_other_calls(&rt, &mut book);
+    // a block loaded and then stored to has two records
+    worked(&rt, &mut book, 3);
+    edges(&rt, &mut book);
     assert_eq!(rt; book.tokens(5), Ok(1));
     assert_eq!(rt;
         book.tokens(64),
@@ -127,5 +131,4 @@ fn board_book(rt: HostRuntime) -> Result<(), Fail> {
         book.codes(u64::MAX),
         Err(Layer::Book.refuses(Refusal::BlockOutOfRange(u64::MAX)))
     );
-    Ok(())
 }

@@ -17,62 +17,53 @@ fn reports(rt: &HostRuntime, script: &[u8], size: usize, expected: &[u8]) -> Res
 }
 
 #[test]
-fn spaces_and_other_bytes(rt: HostRuntime) -> Result<(), Fail> {
-    assert!(rt; reports(&rt, b"b  1", 200, b"1 no T 12 3\n")?, "two spaces");
-    assert!(rt;
-        reports(&rt, b" b 1", 200, b"1 no T 11 1\n")?,
-        "a space in front"
-    );
-    assert!(rt;
-        reports(&rt, b"b 1 ", 200, b"1 no T 12 3\n")?,
-        "a space behind"
-    );
-    assert!(rt; reports(&rt, b"b\t1", 200, b"1 no T 11 1\n")?, "a tab");
-    assert!(rt;
-        reports(&rt, b"b 1\r\n", 200, b"1 no T 13 2\n")?,
-        "a carriage return"
-    );
-    assert!(rt;
-        reports(
-            &rt,
-            b"\0\n\xff 1\nB 1",
-            200,
-            b"1 no T 11 1\n2 no T 11 1\n3 no T 11 1\n",
-        )?,
-        "no letters"
-    );
-    assert!(rt;
-        reports(&rt, b"\n\nb 1\n\n", 200, b"3 ok\n")?,
-        "empty lines count"
-    );
-    Ok(())
-}
-
-#[test]
-fn numbers(rt: HostRuntime) -> Result<(), Fail> {
-    assert!(rt;
-        reports(
-            &rt,
-            b"b 0\ns 0 0 18446744073709551615\nl 0 0",
-            200,
-            b"1 ok\n2 ok\n3 ok 18446744073709551615\n",
-        )?
-    );
-    assert!(rt; reports(&rt, b"b 18446744073709551616", 200, b"1 no T 13 2\n")?);
-    assert!(rt; reports(&rt, b"b 000000000000000000001", 200, b"1 no T 13 2\n")?);
-    assert!(rt; reports(&rt, b"b 01", 200, b"1 no T 13 2\n")?);
-    assert!(rt; reports(&rt, b"l 0 x y", 200, b"1 no T 12 4\n")?);
+fn lines_at_the_edges(rt: HostRuntime) -> Result<(), Fail> {
+    for (script, expected, what) in [
+        ("b  1", "1 no T 12 3\n", "two spaces"),
+        (" b 1", "1 no T 11 1\n", "a space in front"),
+        ("b 1 ", "1 no T 12 3\n", "a space behind"),
+        ("b\t1", "1 no T 11 1\n", "a tab"),
+        ("b 1\r\n", "1 no T 13 2\n", "a carriage return"),
+        ("\0\nB 1", "1 no T 11 1\n2 no T 11 1\n", "no letters"),
+        ("\n\nb 1\n\n", "3 ok\n", "empty lines count"),
+        (
+            "b 0\ns 0 0 18446744073709551615\nl 0 0",
+            "1 ok\n2 ok\n3 ok 18446744073709551615\n",
+            "the largest word",
+        ),
+        (
+            "b 18446744073709551616",
+            "1 no T 13 2\n",
+            "above the largest",
+        ),
+        ("b 000000000000000000001", "1 no T 13 2\n", "21 digits"),
+        ("b 01", "1 no T 13 2\n", "a leading zero"),
+        ("l 0 x y", "1 no T 12 4\n", "too many words"),
+    ] {
+        assert!(rt;
+            reports(&rt, script.as_bytes(), 200, expected.as_bytes())?,
+            "{what}"
+        );
+    }
+    assert!(rt; reports(&rt, b"\xff 1", 200, b"1 no T 11 1\n")?);
     Ok(())
 }
 
 #[test]
 fn small_reports(rt: HostRuntime) -> Result<(), Fail> {
-    assert!(rt; reports(&rt, b"b 1\nl 1 0\n", 0, b"")?);
-    assert!(rt; reports(&rt, b"b 1\nl 1 0\n", 63, b"")?);
-    assert!(rt; reports(&rt, b"b 1\nl 1 0\n", 64, b"1 ok\n")?);
-    assert!(rt; reports(&rt, b"b 1\nl 1 0\n", 65, b"1 ok\n")?);
-    assert!(rt; reports(&rt, b"b 1\nl 1 0\n", 68, b"1 ok\n")?);
-    assert!(rt; reports(&rt, b"b 1\nl 1 0\n", 69, b"1 ok\n2 ok 5\n")?);
+    for (size, expected) in [
+        (0usize, ""),
+        (63, ""),
+        (64, "1 ok\n"),
+        (65, "1 ok\n"),
+        (68, "1 ok\n"),
+        (69, "1 ok\n2 ok 5\n"),
+    ] {
+        assert!(rt;
+            reports(&rt, b"b 1\nl 1 0\n", size, expected.as_bytes())?,
+            "{size}"
+        );
+    }
     assert!(rt; reports(&rt, b"", 64, b"")?);
     Ok(())
 }
