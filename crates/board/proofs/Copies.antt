@@ -1,5 +1,5 @@
 -- A board's copy, among the copies of a block.
-use Rattle.std.proofs.Common.{◌≡◌, replicate, is_some, ℕ, ◌+◌, ◌*◌, ◌<◌, ◌≤◌, true, false, ◌||◌, List, [], ◌∷◌, ◌++◌, map, length, get_or, Some, None, fold, sum, sum_by, Option, sym, refl, ap, ◌∙◌, arith}
+use Rattle.std.proofs.Common.{◌≡◌, ℕ, ◌+◌, ◌*◌, ◌<◌, ◌≤◌, true, false, ◌||◌, List, [], ◌∷◌, ◌++◌, map, length, get_or, Some, None, fold, sum, sum_by, Option, sym, refl, ap, ◌∙◌, arith}
 use Rattle.std.proofs.lemmas.Bool.Decides.{nat_tests}
 use Rattle.std.proofs.lemmas.List.{get_or-map, map-append}
 use Rattle.std.proofs.lemmas.List.Folds.{fold-map}
@@ -25,12 +25,6 @@ copy_at cs i d e l = get_or-map state_in cs i d e l
 pub any_shown : (cs : List (Option Mark)) → list_any (λ c. writer_in (state_in c)) cs ≡ any_writer (map state_in cs)
 any_shown [] = refl
 any_shown (c ∷ cs) = ap (λ b. writer_in (state_in c) || b) (any_shown cs)
-
--- where no board has one
-pub none_there : (cs : List (Option Mark)) → list_any (λ c. is_some c) cs ≡ false → map state_in cs ≡ replicate (length cs) None
-none_there [] e = refl
-none_there (None ∷ cs) e = ap (λ ds. None ∷ ds) (none_there cs e)
-none_there (Some m ∷ cs) e = absurd (let z : ⊥ = grind (arith, nat_tests) in z)
 
 -- home fuses with each copy in turn
 pub fuses_next : (h : Metastate) (cs ds : List (Option Metastate)) (c : Option Metastate) → Coherent h (cs ++ c ∷ ds) → Fuses (fold fused h cs) c

@@ -6,8 +6,8 @@ use Rattle.std.proofs.lemmas.List.{length-map, get_or-map, map-set, get_or-set_s
 use Rattle.std.proofs.lemmas.Bool.{cases_eq, eq-eqb, ne_eqb}
 use Rattle.book.specs.Marking.{set_at, marked, logged, noted, relieved_to, relieved_picture, seat_picture, release_picture}
 use Rattle.book.specs.Picture.{Marks, Recorded, untouched, fresh_picture}
-use Rattle.board.specs.Shown.{marks_of}
-use Rattle.board.specs.Tables.{marks_in, seat_of, seats_in, log_of, logs_in, picture_of}
+use Rattle.board.specs.Shown.{marks_of, marks_in}
+use Rattle.board.specs.Tables.{seat_of, seats_in, log_of, logs_in, picture_of}
 use Rattle.board.specs.declared.block.Block.{Block}
 use Rattle.board.specs.declared.ledger.Account.{Account}
 

@@ -1,3 +1,4 @@
+pub mod Credits
 pub mod Logged
 pub mod Shown
 pub mod Tables

@@ -1,13 +1,10 @@
 -- What the ledger's blocks and accounts mean: a picture. Outside the ranges it shows what a fresh ledger does.
 use Rattle.std.specs.Prelude.{ℕ, List, [], map, slice_index, slice_index_or}
-use Rattle.book.specs.Picture.{Marks, Recorded, Picture, untouched}
+use Rattle.book.specs.Picture.{Recorded, Picture}
 use Rattle.board.specs.Logged.{records_in}
-use Rattle.board.specs.Shown.{marks_of}
+use Rattle.board.specs.Shown.{marks_in}
 use Rattle.board.specs.declared.block.Block.{Block}
 use Rattle.board.specs.declared.ledger.Account.{Account}
-
-abbrev pub marks_in : List Block → (ℕ → Marks)
-marks_in blocks = λ b. slice_index_or (map marks_of blocks) b untouched
 
 abbrev pub seat_of : Account → ℕ
 seat_of a = a.board.number

@@ -1,12 +1,12 @@
 // The marks of one block: its own at home, and one for each board that has a copy.
-ghost use Rattle.std.specs.Prelude.{◌≡◌, ◌-◌, ◌<◌, ◌≤◌, true, false, ◌∷◌, map, length, None, ◌==◌, slice_index_or};
+ghost use Rattle.std.specs.Prelude.{◌≡◌, ◌-◌, ◌<◌, ◌≤◌, true, false, ◌∷◌, map, length, fold, None, ◌==◌, slice_index_or};
 ghost use Rattle.marks.specs.Codes.{code_of, copy_code_of};
 ghost use Rattle.marks.specs.Rules.{state_in};
 ghost use Rattle.marks.specs.States.{in_range, debit_of, is_writer};
 ghost use Rattle.marks.specs.declared.states.Metastate.TheVariants.{Anonymous};
 ghost use Rattle.book.specs.Balance.{Fuses, Coherent};
 ghost use Rattle.book.specs.Marking.{fused, gathered, withdrawn, copy_or_split, with_copy, read_by, load_answer, written_if};
-ghost use Rattle.book.specs.Picture.{untouched, debit_in, writer_in, shown_by};
+ghost use Rattle.book.specs.Picture.{untouched, no_copies, debit_in, writer_in, shown_by};
 
 use book::{Board, Take, Thread};
 use fault::Fault;
@@ -37,12 +37,7 @@ impl Block {
         requires { Coherent (marks_of self.old).home (marks_of self.old).copies }
         ensures { marks_of self.new ≡ gathered (marks_of self.old) }
     {
-        // most blocks have no copy when a release comes to them
-        if !self.copies.iter().any(|copy| copy.is_some()) {
-            return;
-        }
-        self.home = self.copies.iter().copied().fold(self.home, fuse_copy);
-        self.copies = [None; 4];
+        fuse_all(&mut self.home, &mut self.copies);
     }
 
     // Fuses home with the board's copy; that copy goes.
@@ -56,20 +51,11 @@ impl Block {
         self.home = fuse_copy(self.home, copy);
     }
 
-    // The board's copy. Where it has none, home is split first.
-    fn copy_for(&mut self, board: Board) -> Mark
-        ensures value { result.state ≡ copy_or_split (marks_of self.old) board.number }
-        ensures after { marks_of self.new ≡ with_copy (marks_of self.old) board.number result.state }
+    // The board's copy, or where it has none the one that a split of home gives. A split leaves home as it was.
+    fn copy_for(&self, board: Board) -> Mark
+        ensures { result.state ≡ copy_or_split (marks_of self.now) board.number }
     {
-        match self.copies[board.index()] {
-            Some(copy) => copy,
-            None => {
-                let (stays, copy) = self.home.split();
-                self.home = stays;
-                self.copies[board.index()] = Some(copy);
-                copy
-            }
-        }
+        self.copies[board.index()].unwrap_or_else(|| self.home.split().1)
     }
 
     // Takes one token for the thread from its board's copy, unless that shows a writer.
@@ -79,10 +65,10 @@ impl Block {
         ensures after { marks_of self.new ≡ with_copy (marks_of self.old) board.number (read_by thread.number (copy_or_split (marks_of self.old) board.number)) }
     {
         let copy = self.copy_for(board);
+        self.copies[board.index()] = Some(read_by(thread.number(), copy));
         if let Metastate::Writer(writer) = copy.state() {
             return Err(Take::Load.refused_by(writer));
         }
-        self.copies[board.index()] = Some(read_by(thread.number(), copy));
         Ok(())
     }
 
@@ -148,6 +134,19 @@ fn fuse_copy(home: Mark, copy: Option<Mark>) -> Mark
     ensures { result.state ≡ fused home.state (state_in copy) }
 {
     copy.map_or(home, |copy| home.fuse(copy).unwrap())
+}
+
+// Home with every copy fused in, in board order; the copies go.
+fn fuse_all(home: &mut Mark, copies: &mut [Option<Mark>; 4])
+    requires { Coherent home.old.state (map state_in copies.old) }
+    ensures home { home.new.state ≡ fold fused home.old.state (map state_in copies.old) }
+    ensures copies { map state_in copies.new ≡ no_copies }
+{
+    'copies: for copy in copies.iter_mut() {
+        if copy.is_some() {
+            *home = fuse_copy(*home, copy.take());
+        }
+    }
 }
 
 // The copy from which one token more was taken.

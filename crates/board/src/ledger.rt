@@ -2,14 +2,13 @@
 // always in balance: a function that writes both sides does so before the ledger is used again.
 ghost use Rattle.std.specs.Prelude.{◌≡◌, ℕ, ◌-◌, ◌<◌, ◌≤◌, length, Ok, nat_lt};
 ghost use Rattle.marks.specs.States.{debit_of};
-ghost use Rattle.book.specs.Balance.{Balanced, Coherent};
+ghost use Rattle.book.specs.Balance.{Balanced};
 ghost use Rattle.book.specs.Holdings.{Lowest, is_in_the_way, cleared};
-ghost use Rattle.book.specs.Marking.{one_taken, load_picture, all_taken, store_picture, gathered, relieved_to, release_picture, seat_picture, drop_picture};
+ghost use Rattle.book.specs.Marking.{one_taken, load_picture, all_taken, store_picture, gathered, release_picture, seat_picture, drop_picture};
 ghost use Rattle.book.specs.Picture.{fresh_picture, credit_of, holdings_of, shown, codes_of};
 ghost use Rattle.book.specs.Rules.{load_take, after_load, store_take, after_store, Released};
 ghost use Rattle.book.specs.declared.Take.TheVariants.{Store};
-ghost use Rattle.board.specs.Logged.{records_in};
-ghost use Rattle.board.specs.Tables.{marks_in, picture_of};
+ghost use Rattle.board.specs.Tables.{picture_of};
 
 use crate::block::Block;
 use crate::tokens::TokenLog;
@@ -54,26 +53,26 @@ impl Ledger {
     pub(crate) fn credit(&self, thread: Thread, block: BlockNumber) -> Credit
         ensures { result.tokens ≡ holdings_of (drawn self.now) thread.number block.number }
     {
-        self.accounts[thread.index()].log.credit(block.number())
+        self.accounts[thread.index()].log.credit(block)
     }
 
     // Whether the thread has any.
     fn holds(&self, thread: Thread, block: BlockNumber) -> bool
         ensures { result ≡ nat_lt 0 (holdings_of (drawn self.now) thread.number block.number) }
     {
-        self.accounts[thread.index()].log.holds(block.number())
+        self.accounts[thread.index()].log.holds(block)
     }
 
-    // The lowest-numbered other thread with credit on the block.
+    // The lowest-numbered other thread with credit on the block. Only a refused store asks.
+    #[cold]
+    #[inline(never)]
     fn other_holder(&self, thread: Thread, block: BlockNumber) -> Option<u64>
         ensures { Lowest (is_in_the_way Store (holdings_of (drawn self.now)) thread.number block.number) 16 result }
     {
         self.accounts
             .iter()
             .enumerate()
-            .position(|(other, account)| {
-                other != thread.index() && account.log.holds(block.number())
-            })
+            .position(|(other, account)| { other != thread.index() && account.log.holds(block) })
             .map(|other| other as u64)
     }
 
@@ -168,10 +167,7 @@ impl Ledger {
         // in two steps, as above
         let accounts = &mut self.accounts;
         let account = &mut accounts[thread.index()];
-        relieve(&mut self.blocks, &account.log);
-        let count = account.log.count();
-        account.log.clear();
-        count
+        account.log.give_back(&mut self.blocks)
     }
 
     // The tokens that the block's marks show as taken.
@@ -186,18 +182,5 @@ impl Ledger {
         ensures { result ≡ codes_of (drawn self.now) block.number }
     {
         self.blocks[block.index()].codes()
-    }
-}
-
-// Takes each record's count off the debit of its block, which is gathered first. Record by record, since a log has few of the 64 blocks;
-// a block's second record finds it gathered.
-fn relieve(blocks: &mut [Block; 64], log: &TokenLog)
-    requires coherent { (b : ℕ) → b < 64 → Coherent (marks_in blocks.old b).home (marks_in blocks.old b).copies }
-    ensures { marks_in blocks.new ≡ relieved_to 64 (marks_in blocks.old) (records_in log.now) }
-{
-    'each: for record in log.records() {
-        let block = &mut blocks[record.block.index()];
-        block.gather();
-        block.relieve(record.count);
     }
 }

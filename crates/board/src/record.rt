@@ -15,7 +15,7 @@ pub(crate) struct TokenRecord {
 
 impl TokenRecord {
     ghost use Rattle.std.specs.Prelude.{◌≡◌};
-    ghost use Rattle.board.specs.Logged.{recorded};
+    ghost use Rattle.board.specs.Credits.{recorded};
 
     pub(crate) fn new(block: BlockNumber, count: Credit) -> TokenRecord
         requires { 0 < count.tokens }

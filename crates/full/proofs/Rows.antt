@@ -26,6 +26,7 @@ none_held n m = fun_ext (λ t. fun_ext (λ b. ⊎_elim (λ (l : t < n). rw (get_
 pub none_sound : (n m : ℕ) → Sound (held_in (replicate n (replicate m Nothing)))
 none_sound n m = rw (none_held n m) (record { counted = λ t b l k. refl; alone = λ t u b l k v ne e. refl })
 
+-- both at the sizes of a table: the search finds no sizes by itself
 pub fresh_held : held_in (replicate 16 (replicate 64 Nothing)) ≡ (λ t b. 0)
 fresh_held = none_held 16 64
 

@@ -15,11 +15,15 @@ use Rattle.further.specs.declared.holders.Holders.TheVariants.{Readers}
 use Rattle.further.specs.Held.{tokens_of, held_in, everywhere, TakenBy}
 
 -- a book of untouched blocks
-pub none_held : (n : ℕ) → held_in (replicate n (Readers 0)) ≡ (λ t b. 0)
+none_held : (n : ℕ) → held_in (replicate n (Readers 0)) ≡ (λ t b. 0)
 none_held n = fun_ext (λ t. fun_ext (λ b. ap (λ (h : Holders). tokens_of h t) (empty b) ∙ bit_at-zero t))
   where
     empty : (b : ℕ) → get_or (replicate n (Readers 0)) b (Readers 0) ≡ Readers 0
     empty b = ⊎_elim (λ (l : b < n). get_or-replicate n b (Readers 0) (Readers 0) l) (λ (m : n ≤ b). get_or_past (replicate n (Readers 0)) b (Readers 0) (simp length-replicate m)) (cases_lt b n)
+
+-- at the size of a book: the search finds no size by itself
+pub fresh_held : held_in (replicate 64 (Readers 0)) ≡ (λ t b. 0)
+fresh_held = none_held 64
 
 -- one block asked by the rules of the book
 asked : (take : Take) (blocks : List Holders) (t b : ℕ) → b < 64 → take_answer take (everywhere (get_or blocks b (Readers 0))) t 0 ≡ take_answer take (held_in blocks) t b

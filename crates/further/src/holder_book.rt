@@ -18,6 +18,7 @@ pub struct HolderBook {
 
 impl HolderBook {
     // A book in which nothing is held.
+    #[tactic(auto, using(crate::proofs::Blocks::fresh_held))]
     pub fn new() -> HolderBook
         ensures { held_in result.blocks ≡ (λ t b. 0) }
     {

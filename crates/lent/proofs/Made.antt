@@ -44,6 +44,12 @@ length-numbers_of (Ok (Word w)) = refl
 length-numbers_of (Ok (Ended n f)) = refl
 length-numbers_of (Err f) = refl
 
+pub four_of : (r : Result Answer Fault) → get_or (numbers_of r) 0 0 ∷ get_or (numbers_of r) 1 0 ∷ get_or (numbers_of r) 2 0 ∷ get_or (numbers_of r) 3 0 ∷ [] ≡ numbers_of r
+four_of (Ok Done) = refl
+four_of (Ok (Word w)) = refl
+four_of (Ok (Ended n f)) = refl
+four_of (Err f) = refl
+
 -- the calls of the groups from the next one on
 module _ (gs : List (List ℕ)) (made i : ℕ) (counted : made ≡ i) where
   pub calls_from : (o : Option Call) → i < length gs → o ≡ call_of (get_or gs i []) → calls_of (drop made gs) ≡ before_none o (calls_of (drop (made + 1) gs))

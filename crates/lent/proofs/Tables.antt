@@ -1,5 +1,5 @@
--- The bytes that a memory is lent, given back.
-use Rattle.std.proofs.Common.{◌≡◌, ℕ, ◌*◌, ◌/◌, min, List, [], length, slice_index_or, take, drop, sym, ap, ◌∙◌, ⊎_elim, length-drop, drop_of_length-le, arith}
+-- The bytes that a memory is lent, given back, and the numbers of an answer written.
+use Rattle.std.proofs.Common.{◌≡◌, ℕ, zero, suc, ◌+◌, ◌*◌, ◌/◌, ◌≤◌, min, List, [], ◌∷◌, ◌++◌, length, slice_index_or, set, take, drop, sym, refl, ap, ◌∙◌, ⊎_elim, length-drop, drop_of_length-le, arith}
 use Rattle.std.proofs.lemmas.List.{take_all}
 use Rattle.std.proofs.lemmas.Bool.{cases_lt}
 use Rattle.memory.specs.Buffers.{image_words, image_beyond}
@@ -33,3 +33,20 @@ same_length a b words beyond =
       length-drop (64 * min (length a / 64) 64) a,
       length-drop (64 * min (length b / 64) 64) b,
     )
+
+-- four numbers written one after the other
+stepped : (at : ℕ) (xs : List ℕ) (a b c d : ℕ) → at + 4 ≤ length xs → set (set (set (set xs at a) (suc at) b) (suc (suc at)) c) (suc (suc (suc at))) d ≡ take at xs ++ (a ∷ b ∷ c ∷ d ∷ [] ++ drop 4 (drop at xs))
+stepped zero [] a b c d l = absurd (let z : ⊥ = omega arith in z)
+stepped zero (x ∷ []) a b c d l = absurd (let z : ⊥ = omega arith in z)
+stepped zero (x ∷ y ∷ []) a b c d l = absurd (let z : ⊥ = omega arith in z)
+stepped zero (x ∷ y ∷ z ∷ []) a b c d l = absurd (let z : ⊥ = omega arith in z)
+stepped zero (x ∷ y ∷ z ∷ u ∷ xs) a b c d l = refl
+stepped (suc at) [] a b c d l = absurd (let z : ⊥ = omega arith in z)
+stepped (suc at) (x ∷ xs) a b c d l = ap (λ ys. x ∷ ys) (stepped at xs a b c d (omega arith))
+
+pub written : (at : ℕ) (xs : List ℕ) (a b c d : ℕ) → at + 4 ≤ length xs → set (set (set (set xs at a) (at + 1) b) (at + 2) c) (at + 3) d ≡ take at xs ++ (a ∷ b ∷ c ∷ d ∷ [] ++ drop 4 (drop at xs))
+written at xs a b c d l =
+    let one : at + 1 ≡ suc at = omega arith in
+    let two : at + 2 ≡ suc (suc at) = omega arith in
+    let three : at + 3 ≡ suc (suc (suc at)) = omega arith in
+    (λ i. set (set (set (set xs at a) (one i) b) (two i) c) (three i) d) ∙ stepped at xs a b c d l

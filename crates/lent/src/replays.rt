@@ -35,7 +35,12 @@ pub fn replay<B: Book + Drop>(
     for group in groups {
         let Some(call) = call_of(*group) else { break };
         let at = 4 * made;
-        answers[at..at + 4].copy_from_slice(&numbers_of(store.call(call)));
+        // one by one: copied as a slice, they would be put on the stack first
+        let [first, second, third, fourth] = numbers_of(store.call(call));
+        answers[at] = first;
+        answers[at + 1] = second;
+        answers[at + 2] = third;
+        answers[at + 3] = fourth;
         made += 1;
     }
     table[..bytes].copy_from_slice(store.memory().buffer());

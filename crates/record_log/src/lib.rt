@@ -1,7 +1,7 @@
 // A bounded log: records are added at its end and never altered, until all are dropped at once.
 //
-// Undo logs and token logs are both such logs, and both are searched by one rule: the latest
-// record with a given key.
+// Undo logs and token logs are both such logs. There is one search, whatever the records are: the
+// latest with a given key.
 #![tactic(auto)]
 
 ghost use Rattle.std.specs.Prelude.{◌≡◌, ◌≤◌, length};

@@ -1,7 +1,7 @@
-use Rattle.std.proofs.Common.{◌≡◌, ◌*◌, ◌+◌, ◌-◌, ◌/◌, ◌++◌, [], min, length, take, drop, refl, sym, ap, ◌∙◌, arith}
+use Rattle.std.proofs.Common.{◌≡◌, ◌*◌, ◌+◌, ◌/◌, ◌≤◌, ◌++◌, [], ◌∷◌, min, length, get_or, rules, take, drop, refl, sym, ap, ◌∙◌, arith}
 use Rattle.lent.specs.Numbers.{calls_of}
-use Rattle.lent.proofs.Made.{groups_are, calls_from, none_from, sofar_none, sofar_more, sofar_all, turns_of}
-use Rattle.lent.proofs.Tables.{lent_is, rest_is, same_length}
+use Rattle.lent.proofs.Made.{groups_are, four_of, calls_from, none_from, sofar_none, sofar_more, sofar_all, turns_of}
+use Rattle.lent.proofs.Tables.{lent_is, rest_is, same_length, written}
 use Rattle.lent.proofs.replays.replay.Goals as goal
 use Rattle.lent.proofs.replays.replay.Goals.{else-loop-group-test, then-loop-group-test+in_default}
 
@@ -14,16 +14,18 @@ loop-group-init g c = record {
 pub loop-group-preserved : goal.loop-group-preserved
 loop-group-preserved g c =
     let l = c.loop-group in
-    let four : 4 * l.made + 4 - 4 * l.made ≡ 4 = omega arith in
+    let room : 4 * l.made + 4 ≤ length l.answers = search rules in
     let is = calls_from _ l.made l.group-index l.invariant.counted _ c.loop-group-test.true (sym c.in-Some.is ∙ c.call_of.ensures) in
-    let wrote = c.copy_from_slice.ensures.after ∙ c.numbers_of.ensures in
+    let ns = c.numbers_of.result in
+    let wrote = written (4 * l.made) l.answers (get_or ns 0 0) (get_or ns 1 0) (get_or ns 2 0) (get_or ns 3 0) room in
+    let four = ap (λ ns. get_or ns 0 0 ∷ get_or ns 1 0 ∷ get_or ns 2 0 ∷ get_or ns 3 0 ∷ []) c.numbers_of.ensures ∙ four_of c.call.result in
     record {
       counted = ap (λ n. n + 1) l.invariant.counted;
-      far = sofar_more _ _ _ _ _ _ _ l.made l.answers l.store l.invariant.far c.in-Some.call c.call.result _ _ is (λ k. take (4 * l.made) l.answers ++ (wrote k ++ drop (four k) (drop (4 * l.made) l.answers))) c.call.ensures.leaves c.call.ensures.step;
+      far = sofar_more _ _ _ _ _ _ _ l.made l.answers l.store l.invariant.far c.in-Some.call c.call.result _ _ is (wrote ∙ ap (λ ns. take (4 * l.made) l.answers ++ (ns ++ drop 4 (drop (4 * l.made) l.answers))) four) c.call.ensures.leaves c.call.ensures.step;
     }
 
-pub copy_from_slice-requires-2 : goal.copy_from_slice-requires-2
-copy_from_slice-requires-2 g c =
+pub copy_from_slice-requires : goal.copy_from_slice-requires
+copy_from_slice-requires g c =
     let far = c.loop-group.invariant.far in
     let e = same_length c.fresh-store.result.memory.buffer.items c.loop-group.store.memory.buffer.items far.reached.size far.untouched in
     let m = c.memory.ensures in
@@ -52,7 +54,7 @@ returns-clause-made g c =
       lent = ap (λ v. v.items) c.over-image.ensures ∙ c.in_ok-from_slice.ensures.items ∙ lent_is c.args.table.now c.min-bytes.result bytes;
       kept = sofar_all _ _ _ _ _ _ _ l.made l.answers l.store far _ _ c.fresh-store.ensures.memory c.fresh-store.ensures.book none _ gs;
       given_back =
-          let after = c.copy_from_slice-2.ensures.after in
+          let after = c.copy_from_slice.ensures.after in
           let b = c.buffer.ensures in
           let m = c.memory.ensures in
           let rest = rest_is c.args.table.now c.min-bytes.result bytes in

@@ -9,8 +9,8 @@ use Rattle.board.proofs.Drawings.{log_at, released-drawn}
 use Rattle.board.proofs.Ledgers.{balance_of}
 use Rattle.board.proofs.ledger.Ledger.release.Goals as goal
 
-pub relieve-requires : goal.relieve-requires
-relieve-requires c =
+pub give_back-requires : goal.give_back-requires
+give_back-requires c =
     let p = drawn c.args.self.now in
     record { coherent = λ b n. agrees_coherent (p.marks b).home (p.marks b).copies (λ u. holdings_of p u b) ((balance_of c.args.self.now).agrees b n) }
 
@@ -21,8 +21,8 @@ invariant_of-self c =
     let i = c.index.result in
     let d = c.index-accounts-index.result in
     let l : i < length k.accounts = search rules in
-    let a : Account = record { board = (get_or k.accounts i d).board; log = c.clear.new.self } in
-    let after = released-drawn k.blocks c.relieve.new.blocks k.accounts t i a d c.index.ensures.value l c.relieve.ensures refl c.clear.ensures in
+    let a : Account = record { board = (get_or k.accounts i d).board; log = c.give_back.new.self } in
+    let after = released-drawn k.blocks c.give_back.new.blocks k.accounts t i a d c.index.ensures.value l c.give_back.ensures.relieved refl c.give_back.ensures.after in
     record { balanced = ∣ subst Balanced (sym after) (release_balanced (drawn k) t (balance_of k) c.args.thread.range) ∣₁ }
 
 pub returns : goal.returns
@@ -33,9 +33,9 @@ returns c =
     let i = c.index.result in
     let d = c.index-accounts-index.result in
     let l : i < length k.accounts = search rules in
-    let a : Account = record { board = (get_or k.accounts i d).board; log = c.clear.new.self } in
-    let after = released-drawn k.blocks c.relieve.new.blocks k.accounts t i a d c.index.ensures.value l c.relieve.ensures refl c.clear.ensures in
-    let figure : c.count-count.result ≡ length (p.logs t) = c.count-count.ensures ∙ ap length (sym (log_at k.accounts t i d c.index.ensures.value l)) in
+    let a : Account = record { board = (get_or k.accounts i d).board; log = c.give_back.new.self } in
+    let after = released-drawn k.blocks c.give_back.new.blocks k.accounts t i a d c.index.ensures.value l c.give_back.ensures.relieved refl c.give_back.ensures.after in
+    let figure : c.give_back.result ≡ length (p.logs t) = c.give_back.ensures.count ∙ ap length (sym (log_at k.accounts t i d c.index.ensures.value l)) in
     let limits = order_figure p t ((balance_of k).in_order t c.args.thread.range) in
     record {
       answer = figure;

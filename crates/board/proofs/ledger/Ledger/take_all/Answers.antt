@@ -1,7 +1,8 @@
-use Rattle.std.proofs.Common.{◌-◌, ◌<◌, true, false, length, get_or, Err, sym, refl, ap, ◌∙◌, subst, rules}
+use Rattle.std.proofs.Common.{◌≡◌, ◌-◌, ◌<◌, true, false, length, get_or, Err, sym, refl, ap, ◌∙◌, subst, rules, arith}
 use Rattle.book.specs.Balance.{Balanced}
 use Rattle.book.specs.Holdings.{is_in_the_way}
-use Rattle.book.specs.Picture.{holdings_of}
+use Rattle.book.specs.Picture.{credit_of, holdings_of}
+use Rattle.board.specs.Tables.{log_of}
 use Rattle.book.specs.declared.Take.TheVariants.{Store}
 use Rattle.book.proofs.Below.{lowest-only}
 use Rattle.board.specs.Drawn.{drawn}
@@ -27,9 +28,14 @@ note-requires c =
     let b = c.args.block.number in
     let l : c.index-then-store.result < length k.accounts = search rules in
     let w = stores_in k c.args.thread c.args.block c.args.credit.tokens c.requires.own c.requires.short in
+    let here = log_at k.accounts t c.index-then-store.result c.index-accounts-index.result c.index-then-store.ensures.value l in
+    let own : credit_of b (log_of (get_or k.accounts c.index-then-store.result c.index-accounts-index.result)) ≡ c.args.credit.tokens = ap (credit_of b) (sym here) ∙ sym c.requires.own in
+    let short = c.requires.short in
+    let rest = c.new.ensures ∙ ap (λ n. 64 - n) c.tokens.ensures in
     record {
-      room = rw (log_at k.accounts t c.index-then-store.result c.index-accounts-index.result c.index-then-store.ensures.value l) at w.room;
+      room = rw here at w.room;
       some = search rules;
+      limit = omega arith;
     }
 
 pub invariant_of-self : goal.invariant_of-self

@@ -1,9 +1,10 @@
-use Rattle.std.proofs.Common.{◌≡◌, ◌<◌, length, get_or, Ok, Err, sym, refl, ◌∙◌, subst, rules}
+use Rattle.std.proofs.Common.{◌≡◌, ◌<◌, length, get_or, Ok, Err, sym, refl, ap, ◌∙◌, subst, rules, arith}
 use Rattle.std.proofs.lemmas.Result.{err_from_is_err_and}
 use Rattle.book.specs.Balance.{Balanced}
 use Rattle.book.specs.Marking.{copy_or_split, load_answer}
 use Rattle.board.specs.Shown.{marks_of}
-use Rattle.board.specs.Tables.{seat_of}
+use Rattle.book.specs.Picture.{credit_of}
+use Rattle.board.specs.Tables.{seat_of, log_of}
 use Rattle.board.specs.declared.ledger.Account.{Account}
 use Rattle.board.proofs.Drawings.{block_at, seat_at, log_at}
 use Rattle.board.proofs.Ledgers.{loads_in}
@@ -53,10 +54,15 @@ pub note-requires : goal.note-requires
 note-requires c =
     let k = c.args.self.now in
     let t = c.args.thread.number in
+    let b = c.args.block.number in
     let l : c.index.result < length k.accounts = search rules in
+    let here = log_at k.accounts t c.index.result c.index-accounts-index.result c.index.ensures.value l in
+    let none : credit_of b (log_of (get_or k.accounts c.index.result c.index-accounts-index.result)) ≡ 0 = ap (credit_of b) (sym here) ∙ c.requires in
+    let one = c.new.ensures in
     record {
-      room = rw (log_at k.accounts t c.index.result c.index-accounts-index.result c.index.ensures.value l) at (loads_in k c.args.thread c.args.block c.requires).room;
+      room = rw here at (loads_in k c.args.thread c.args.block c.requires).room;
       some = search rules;
+      limit = omega arith;
     }
 
 pub invariant_of-self-2 : goal.invariant_of-self-2
