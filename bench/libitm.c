@@ -1,12 +1,16 @@
 /* The benchmark's jobs as transactions of GCC's transactional memory: begin, k loads, k stores, commit; every second one
-   cancelled where ABORTED is 2.
+   cancelled where ABORTED is 2. Where THREADS is 2, another thread has run a transaction too, and sleeps: from then on the
+   library guards each access by locks and a log. While one thread alone uses transactions it does without.
 
-       libitm K ABORTED TIMES      prints the nanoseconds of each job */
+       libitm K ABORTED THREADS TIMES      prints the nanoseconds of each job */
 
+#include <pthread.h>
+#include <semaphore.h>
 #include <stdint.h>
 #include <stdio.h>
 #include <stdlib.h>
 #include <time.h>
+#include <unistd.h>
 
 enum { WORDS = 512, REACH = 256 };
 
@@ -40,14 +44,30 @@ static double now(void) {
     return time.tv_sec * 1e9 + time.tv_nsec;
 }
 
+static sem_t begun_too;
+
+static void *other(void *unused) {
+    committed(1, 0);
+    sem_post(&begun_too);
+    pause();
+    return unused;
+}
+
 int main(int count, char **arguments) {
-    if (count != 4) {
-        puts("usage: libitm K ABORTED TIMES");
+    if (count != 5) {
+        puts("usage: libitm K ABORTED THREADS TIMES");
         return 2;
     }
     size_t k = strtoul(arguments[1], NULL, 10);
     size_t aborted = strtoul(arguments[2], NULL, 10);
-    size_t times = strtoul(arguments[3], NULL, 10);
+    size_t threads = strtoul(arguments[3], NULL, 10);
+    size_t times = strtoul(arguments[4], NULL, 10);
+    if (threads > 1) {
+        pthread_t thread;
+        sem_init(&begun_too, 0, 0);
+        if (pthread_create(&thread, NULL, other, NULL)) return 1;
+        sem_wait(&begun_too);
+    }
     double begun = now();
     for (size_t job = 0; job < times; job++) {
         if (aborted && job % aborted == 0) cancelled(k, job);

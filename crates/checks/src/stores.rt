@@ -131,6 +131,7 @@ fn a_full_undo_log(rt: HostRuntime) -> Result<(), Fail> {
             (Call::Begin(1), DONE),
             // no token of the refused store is left
             (Call::Store(1, 511, 3), DONE),
+            (Call::Store(1, 512, 3), past_the_end(512)),
             (Call::Commit(0), ended(64, 9)),
         ],
     );

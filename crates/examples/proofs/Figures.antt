@@ -8,7 +8,7 @@ use Rattle.book.specs.Picture.{Marks, Recorded, Picture, fresh_picture, untouche
 use Rattle.book.specs.Rules.{after_load, after_store, after_release}
 use Rattle.board.specs.Drawn.{drawn}
 use Rattle.board.specs.declared.BoardBook.{BoardBook}
-use Rattle.full.specs.Exact.{Exactly}
+use Rattle.book.specs.Exact.{Exactly}
 use Rattle.full.specs.Held.{held_in}
 use Rattle.full.specs.declared.table.FullBook.{FullBook}
 use Rattle.store.specs.Moved.{Releases, none, more}

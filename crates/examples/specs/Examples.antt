@@ -8,7 +8,7 @@ use Rattle.book.specs.Moves.{Move}
 use Rattle.book.specs.Picture.{fresh_picture, holdings_of}
 use Rattle.board.specs.Drawn.{drawn}
 use Rattle.board.specs.declared.BoardBook.{BoardBook}
-use Rattle.full.specs.Exact.{Exactly}
+use Rattle.book.specs.Exact.{Exactly}
 use Rattle.full.specs.Held.{held_in}
 use Rattle.full.specs.declared.table.FullBook.{FullBook}
 use Rattle.examples.specs.Fusions.{Fuses, Refuses, Codes}

@@ -4,7 +4,7 @@
 ghost use Rattle.std.specs.Prelude.{◌≡◌};
 ghost use Rattle.book.specs.Holdings.{Lowest, is_in_the_way, blocks_held, cleared};
 ghost use Rattle.book.specs.Rules.{take_answer, after_take};
-ghost use Rattle.full.specs.Exact.{Exactly};
+ghost use Rattle.book.specs.Exact.{Exactly};
 ghost use Rattle.full.specs.Held.{held_in};
 ghost use Rattle.book.proofs.Kept.{sound_from};
 

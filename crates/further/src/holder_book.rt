@@ -2,7 +2,7 @@
 ghost use Rattle.std.specs.Prelude.{◌≡◌, length};
 ghost use Rattle.book.specs.Holdings.{blocks_held, cleared};
 ghost use Rattle.book.specs.Rules.{take_answer, after_take};
-ghost use Rattle.full.specs.Exact.{Exactly};
+ghost use Rattle.book.specs.Exact.{Exactly};
 ghost use Rattle.further.specs.Held.{held_in};
 ghost use Rattle.further.specs.Alone.{holders_sound};
 

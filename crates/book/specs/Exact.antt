@@ -1,4 +1,4 @@
--- What the full book promises of each call: answer and holdings by the rules, and the exact figure of a release.
+-- What a book promises of each call that has no marks and tells exactly what is held: answer and holdings by the rules, and the exact figure of a release.
 use Rattle.std.specs.Prelude.{◌≡◌, ℕ, Ok, Result}
 use Rattle.fault.specs.declared.Fault.{Fault}
 use Rattle.book.specs.Holdings.{Holdings, blocks_held}
