@@ -136,7 +136,7 @@ fn fuse_copy(home: Mark, copy: Option<Mark>) -> Mark
     copy.map_or(home, |copy| home.fuse(copy).unwrap())
 }
 
-// Home with every copy fused in, in board order; the copies go.
+// Fuses every copy into home, in board order; the copies go. Nothing is written where a board has none.
 fn fuse_all(home: &mut Mark, copies: &mut [Option<Mark>; 4])
     requires { Coherent home.old.state (map state_in copies.old) }
     ensures home { home.new.state ≡ fold fused home.old.state (map state_in copies.old) }
