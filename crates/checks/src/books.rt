@@ -1,4 +1,5 @@
 // Both books on the same worked sequences: the same answers and holdings, each with its own figures.
+use crate::found::same;
 use board::BoardBook;
 use book::{Book, Marked};
 use fault::{Fault, Layer, Refusal};
@@ -33,6 +34,10 @@ const DONE: Result<Option<u64>, Fault> = Ok(None);
 
 fn refused(refusal: Refusal) -> Result<Option<u64>, Fault> {
     Err(Layer::Book.refuses(refusal))
+}
+
+fn no_block(block: u64) -> Fault {
+    Layer::Book.refuses(Refusal::BlockOutOfRange(block))
 }
 
 fn answers<B: Book>(
@@ -82,53 +87,50 @@ fn worked<B: Book>(rt: &impl Abort, book: &mut B, figure: u64) {
 fn edges<B: Book>(rt: &impl Abort, book: &mut B) {
     let no_thread = refused(Refusal::ThreadOutOfRange(16));
     let no_board = refused(Refusal::BoardOutOfRange(4));
-    let no_block = refused(Refusal::BlockOutOfRange(64));
     answers(
         rt,
         book,
         &[
             (Asked::Load(16, 64), no_thread),
-            (Asked::Load(15, 64), no_block),
+            (Asked::Load(15, 64), Err(no_block(64))),
             (Asked::Load(15, 63), DONE),
             (
                 Asked::Store(u64::MAX, 0),
                 refused(Refusal::ThreadOutOfRange(u64::MAX)),
             ),
-            (
-                Asked::Store(0, u64::MAX),
-                refused(Refusal::BlockOutOfRange(u64::MAX)),
-            ),
+            (Asked::Store(0, u64::MAX), Err(no_block(u64::MAX))),
             (Asked::Release(16), no_thread),
             (Asked::Held(16, 0), no_thread),
-            (Asked::Held(0, 64), no_block),
+            (Asked::Held(0, 64), Err(no_block(64))),
             (Asked::Seat(16, 4), no_thread),
             (Asked::Seat(0, 4), no_board),
             (Asked::Drop(4, 64), no_board),
-            (Asked::Drop(3, 64), no_block),
+            (Asked::Drop(3, 64), Err(no_block(64))),
         ],
     );
 }
 
 #[test]
-fn full_book(rt: HostRuntime) {
-    let mut book = FullBook::new();
-    worked(&rt, &mut book, 2);
-    edges(&rt, &mut book);
-}
+fn worked_on_both(rt: HostRuntime) {
+    let mut full = FullBook::new();
+    worked(&rt, &mut full, 2);
+    edges(&rt, &mut full);
 
-#[test]
-fn board_book(rt: HostRuntime) {
-    let mut book = BoardBook::new();
+    let mut board = BoardBook::new();
     // a block loaded and then stored to has two records
-    worked(&rt, &mut book, 3);
-    edges(&rt, &mut book);
-    assert_eq!(rt; book.tokens(5), Ok(1));
-    assert_eq!(rt;
-        book.tokens(64),
-        Err(Layer::Book.refuses(Refusal::BlockOutOfRange(64)))
+    worked(&rt, &mut board, 3);
+    edges(&rt, &mut board);
+    same(&rt, "tokens shown", board.tokens(5), Ok(1));
+    same(
+        &rt,
+        "tokens of no block",
+        board.tokens(64),
+        Err(no_block(64)),
     );
-    assert_eq!(rt;
-        book.codes(u64::MAX),
-        Err(Layer::Book.refuses(Refusal::BlockOutOfRange(u64::MAX)))
+    same(
+        &rt,
+        "codes of no block",
+        board.codes(u64::MAX),
+        Err(no_block(u64::MAX)),
     );
 }

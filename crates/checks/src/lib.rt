@@ -8,7 +8,7 @@ mod examples_answered;
 #[cfg(test)]
 mod faults;
 #[cfg(test)]
-mod marks_fused;
+mod found;
 #[cfg(test)]
 mod memories;
 #[cfg(test)]

@@ -1,4 +1,5 @@
 // Memories at their boundaries.
+use crate::found::same;
 use fault::{Fault, Layer, Refusal};
 use memory::{Image, Memory, Plain, Window};
 use std::test::Fail;
@@ -12,8 +13,13 @@ fn counting(rt: &HostRuntime, count: u64) -> Result<Plain, Fail> {
     Ok(Plain::over((1..=count).collect(rt.alloc())?))
 }
 
+// Whether the memory has so many blocks, and none of the words behind them.
+fn ends_at<M: Memory + Drop>(memory: M, blocks: u64) -> bool {
+    memory.size() == blocks && memory.read(8 * blocks) == Err(past_the_end(8 * blocks))
+}
+
 #[test]
-fn sizes_of_plain_words(rt: HostRuntime) -> Result<(), Fail> {
+fn sizes(rt: HostRuntime) -> Result<(), Fail> {
     for (words, blocks) in [
         (0usize, 0u64),
         (7, 0),
@@ -24,15 +30,8 @@ fn sizes_of_plain_words(rt: HostRuntime) -> Result<(), Fail> {
         (513, 64),
         (520, 64),
     ] {
-        let memory = Plain::over(vec![in rt.alloc(); 0; words]?);
-        assert_eq!(rt; memory.size(), blocks);
-        assert_eq!(rt; memory.read(8 * blocks), Err(past_the_end(8 * blocks)));
+        assert!(rt; ends_at(Plain::over(vec![in rt.alloc(); 0; words]?), blocks));
     }
-    Ok(())
-}
-
-#[test]
-fn sizes_of_images(rt: HostRuntime) -> Result<(), Fail> {
     for (bytes, blocks) in [
         (0usize, 0u64),
         (63, 0),
@@ -41,32 +40,38 @@ fn sizes_of_images(rt: HostRuntime) -> Result<(), Fail> {
         (4096, 64),
         (4100, 64),
     ] {
-        let memory = Image::over(vec![in rt.alloc(); 0; bytes]?);
-        assert_eq!(rt; memory.size(), blocks);
-        assert_eq!(rt; memory.read(8 * blocks), Err(past_the_end(8 * blocks)));
+        assert!(rt; ends_at(Image::over(vec![in rt.alloc(); 0; bytes]?), blocks));
     }
     Ok(())
 }
 
 #[test]
-fn the_last_word(rt: HostRuntime) -> Result<(), Fail> {
-    let mut memory = counting(&rt, 520)?;
-    assert_eq!(rt; memory.write(511, 77), Ok(()));
-    assert_eq!(rt; memory.read(511), Ok(77));
-    assert_eq!(rt; memory.write(512, 78), Err(past_the_end(512)));
-    assert_eq!(rt; memory.read(512), Err(past_the_end(512)));
-    assert_eq!(rt; memory.read(u64::MAX), Err(past_the_end(u64::MAX)));
-    assert_eq!(rt; memory.buffer().get(512).copied(), Some(513));
+fn words_in_place(rt: HostRuntime) -> Result<(), Fail> {
+    let mut plain = counting(&rt, 520)?;
+    same(&rt, "the last word", plain.write(511, 77), Ok(()));
+    let past = past_the_end(512);
+    same(&rt, "behind the last word", plain.write(512, 78), Err(past));
+    for (address, word) in [
+        (510, Ok(511)),
+        (511, Ok(77)),
+        (512, Err(past)),
+        (u64::MAX, Err(past_the_end(u64::MAX))),
+    ] {
+        assert_eq!(rt; plain.read(address), word, "{address}");
+    }
+    let behind = plain.buffer().get(512).copied();
+    same(&rt, "a word that is in no block", behind, Some(513));
     Ok(())
 }
 
 #[test]
-fn every_byte_of_a_word(rt: HostRuntime) -> Result<(), Fail> {
-    let mut memory = Image::over(vec![in rt.alloc(); 0; 64]?);
-    assert_eq!(rt; memory.write(1, 0x0102_0304_0506_0708), Ok(()));
-    assert_eq!(rt; memory.read(1), Ok(0x0102_0304_0506_0708));
+fn bytes_in_place(rt: HostRuntime) -> Result<(), Fail> {
+    let mut image = Image::over(vec![in rt.alloc(); 0; 64]?);
+    let word = 0x0102_0304_0506_0708;
+    same(&rt, "write", image.write(1, word), Ok(()));
+    same(&rt, "read", image.read(1), Ok(word));
     let bytes = [0u8, 1, 2, 3, 4, 5, 6, 7, 8, 0];
-    assert_eq!(rt; memory.buffer().get(7..17), Some(bytes.as_slice()));
+    assert_eq!(rt; image.buffer().get(7..17), Some(bytes.as_slice()));
     Ok(())
 }
 
@@ -80,40 +85,40 @@ fn windows(rt: HostRuntime) -> Result<(), Fail> {
         (u64::MAX, u64::MAX, 0),
         (0, 0, 0),
     ] {
-        let window = Window::over(counting(&rt, 24)?, first, count);
-        assert_eq!(rt; window.size(), blocks);
-        assert_eq!(rt; window.read(8 * blocks), Err(past_the_end(8 * blocks)));
+        assert!(rt; ends_at(Window::over(counting(&rt, 24)?, first, count), blocks));
     }
+    Ok(())
+}
+
+#[test]
+fn a_window_in_a_window(rt: HostRuntime) -> Result<(), Fail> {
     let mut nested = Window::over(Window::over(counting(&rt, 40)?, 1, 3), 1, u64::MAX);
-    assert_eq!(rt; nested.size(), 2);
-    assert_eq!(rt; nested.read(0), Ok(17));
-    assert_eq!(rt; nested.write(15, 99), Ok(()));
-    assert_eq!(rt; nested.write(16, 98), Err(past_the_end(16)));
+    same(&rt, "size", nested.size(), 2);
+    same(&rt, "first word", nested.read(0), Ok(17));
+    same(&rt, "last word", nested.write(15, 99), Ok(()));
+    same(&rt, "past it", nested.write(16, 98), Err(past_the_end(16)));
     let below = nested.into_below().into_below();
-    assert_eq!(rt; below.read(31), Ok(99));
-    assert_eq!(rt; below.read(32), Ok(33));
+    same(&rt, "last word, below", below.read(31), Ok(99));
+    same(&rt, "past it, below", below.read(32), Ok(33));
     Ok(())
 }
 
 #[test]
 fn reports_of_any_length(rt: HostRuntime) -> Result<(), Fail> {
-    for (bytes, blocks, trailing) in [
-        (0usize, 0u64, 0u64),
-        (5, 0, 5),
-        (64, 1, 0),
-        (130, 2, 2),
-        (4096, 64, 0),
+    for (bytes, blocks, words, trailing) in [
+        (0usize, 0u64, 0u64, 0u64),
+        (5, 0, 0, 5),
+        (64, 1, 8, 0),
+        (130, 2, 16, 2),
+        (4096, 64, 512, 0),
     ] {
         let report = Image::over(vec![in rt.alloc(); 1; bytes]?);
         let table = Plain::over(vec![in rt.alloc(); 0; 512]?);
         let (table, done) = frames::unpack(&report, table)?;
-        assert_eq!(rt; done.blocks, blocks);
-        assert_eq!(rt; done.words, 8 * blocks);
-        assert_eq!(rt; done.trailing, trailing);
-        assert_eq!(rt;
-            table.read(0),
-            Ok(if blocks > 0 { 0x0101_0101_0101_0101 } else { 0 })
-        );
+        let found = (done.blocks, done.words, done.trailing);
+        assert_eq!(rt; found, (blocks, words, trailing));
+        let first = if blocks > 0 { 0x0101_0101_0101_0101 } else { 0 };
+        same(&rt, "first word", table.read(0), Ok(first));
     }
     Ok(())
 }

@@ -17,39 +17,6 @@ fn reports(rt: &HostRuntime, script: &[u8], size: usize, expected: &[u8]) -> Res
 }
 
 #[test]
-fn lines_at_the_edges(rt: HostRuntime) -> Result<(), Fail> {
-    for (script, expected, what) in [
-        ("b  1", "1 no T 12 3\n", "two spaces"),
-        (" b 1", "1 no T 11 1\n", "a space in front"),
-        ("b 1 ", "1 no T 12 3\n", "a space behind"),
-        ("b\t1", "1 no T 11 1\n", "a tab"),
-        ("b 1\r\n", "1 no T 13 2\n", "a carriage return"),
-        ("\0\nB 1", "1 no T 11 1\n2 no T 11 1\n", "no letters"),
-        ("\n\nb 1\n\n", "3 ok\n", "empty lines count"),
-        (
-            "b 0\ns 0 0 18446744073709551615\nl 0 0",
-            "1 ok\n2 ok\n3 ok 18446744073709551615\n",
-            "the largest word",
-        ),
-        (
-            "b 18446744073709551616",
-            "1 no T 13 2\n",
-            "above the largest",
-        ),
-        ("b 000000000000000000001", "1 no T 13 2\n", "21 digits"),
-        ("b 01", "1 no T 13 2\n", "a leading zero"),
-        ("l 0 x y", "1 no T 12 4\n", "too many words"),
-    ] {
-        assert!(rt;
-            reports(&rt, script.as_bytes(), 200, expected.as_bytes())?,
-            "{what}"
-        );
-    }
-    assert!(rt; reports(&rt, b"\xff 1", 200, b"1 no T 11 1\n")?);
-    Ok(())
-}
-
-#[test]
 fn small_reports(rt: HostRuntime) -> Result<(), Fail> {
     for (size, expected) in [
         (0usize, ""),
@@ -65,12 +32,5 @@ fn small_reports(rt: HostRuntime) -> Result<(), Fail> {
         );
     }
     assert!(rt; reports(&rt, b"", 64, b"")?);
-    Ok(())
-}
-
-#[test]
-fn a_long_line(rt: HostRuntime) -> Result<(), Fail> {
-    let long = vec![in rt.alloc(); 98u8; 30000]?;
-    assert!(rt; reports(&rt, &long, 200, b"1 no T 11 1\n")?);
     Ok(())
 }

@@ -1,4 +1,5 @@
 // The store on worked lists of calls, by thread number and through held jobs.
+use crate::found::same;
 use board::BoardBook;
 use book::Book;
 use fault::{Fault, Layer, Refusal};
@@ -46,47 +47,6 @@ fn makes<B: Book>(
     for (call, answer) in expected {
         assert_eq!(rt; store.call(*call), *answer, "{call:?}");
     }
-}
-
-#[test]
-fn an_abort_puts_back_the_word_before_the_first_store(rt: HostRuntime) -> Result<(), Fail> {
-    let mut store = tens(&rt, 512, FullBook::new())?;
-    makes(
-        &rt,
-        &mut store,
-        &[
-            (Call::Begin(1), DONE),
-            (Call::Store(1, 3, 15), DONE),
-            (Call::Store(1, 3, 20), DONE),
-            (Call::Load(1, 3), word(20)),
-            (Call::Abort(1), ended(1, 1)),
-        ],
-    );
-    assert_eq!(rt; store.memory().read(3), Ok(10));
-    Ok(())
-}
-
-// Thread 4 loads word 0, stores 11 there and commits; the book's release has this figure.
-fn load_store_commit<B: Book>(rt: &impl Abort, store: &mut Store<Plain, B>, figure: u64) {
-    makes(
-        rt,
-        store,
-        &[
-            (Call::Begin(4), DONE),
-            (Call::Load(4, 0), word(10)),
-            (Call::Store(4, 0, 11), DONE),
-            (Call::Commit(4), ended(1, figure)),
-        ],
-    );
-    assert_eq!(rt; store.memory().read(0), Ok(11));
-}
-
-#[test]
-fn a_load_and_a_store_of_one_word(rt: HostRuntime) -> Result<(), Fail> {
-    load_store_commit(&rt, &mut tens(&rt, 512, FullBook::new())?, 1);
-    // the board book has a record for the load and one for the store
-    load_store_commit(&rt, &mut tens(&rt, 512, BoardBook::new())?, 2);
-    Ok(())
 }
 
 #[test]
@@ -209,8 +169,15 @@ fn jobs_on_different_blocks(rt: HostRuntime) -> Result<(), Fail> {
     for thread in 0..16 {
         makes(&rt, &mut store, &[(Call::Commit(thread), ended(1, 1))]);
     }
-    assert_eq!(rt; store.memory().read(120), Ok(15));
+    holds(&rt, store.memory(), &[(0, 0), (7, 10), (120, 15)]);
     Ok(())
+}
+
+// Whether the memory has these words at these addresses.
+fn holds(rt: &impl Abort, memory: &Plain, expected: &[(u64, u64)]) {
+    for (address, word) in expected {
+        assert_eq!(rt; memory.read(*address), Ok(*word), "at {address}");
+    }
 }
 
 // What a held job is asked for.
@@ -263,14 +230,16 @@ fn three_jobs_held_at_once(rt: HostRuntime) -> Result<(), Fail> {
         ],
     );
     let gone = Layer::Store.refuses(Refusal::NoJobOpen(3));
-    assert_eq!(rt; third.load(&mut store, 24), Err(gone));
-    assert_eq!(rt; third.commit(&mut store), Err(gone));
-    assert_eq!(rt; second.abort(&mut store), Ok((1, 2)));
+    same(&rt, "load", third.load(&mut store, 24), Err(gone));
+    same(&rt, "commit", third.commit(&mut store), Err(gone));
+    same(&rt, "abort", second.abort(&mut store), Ok((1, 2)));
     // both readers are gone
-    assert_eq!(rt; first.store(&mut store, 9, 12), Ok(()));
-    assert_eq!(rt; first.commit(&mut store), Ok((2, 2)));
-    for (address, word) in [(0, 13), (8, 10), (9, 12), (16, 10), (24, 30)] {
-        assert_eq!(rt; store.memory().read(address), Ok(word), "at {address}");
-    }
+    same(&rt, "store", first.store(&mut store, 9, 12), Ok(()));
+    same(&rt, "commit", first.commit(&mut store), Ok((2, 2)));
+    holds(
+        &rt,
+        store.memory(),
+        &[(0, 13), (8, 10), (9, 12), (16, 10), (24, 30)],
+    );
     Ok(())
 }
