@@ -49,11 +49,28 @@ abbrev pub MovedBy : {B : Type 0} → (B → Move → B → Type 0) → B → Op
 MovedBy R k (Some τ) l = R k τ l
 MovedBy R k None l = l ≡ k
 
--- what a call with its answer leaves: the state after it, what lies beyond the memory's words as it was, and the book
--- after its one move
+-- whether a call writes to the memory: a store and an abort do, where they are granted
+abbrev pub writes : Call → Result Answer Fault → Bool
+writes (Begin t) r = false
+writes (Load t a) r = false
+writes (Store t a w) (Ok x) = true
+writes (Store t a w) (Err f) = false
+writes (Commit t) r = false
+writes (Abort t) (Ok x) = true
+writes (Abort t) (Err f) = false
+writes (Seat t board) r = false
+writes (Drop board b) r = false
+
+abbrev pub KeptUnless : {M : Type 0} → Bool → M → M → Type 0
+KeptUnless true m n = Unit {0}
+KeptUnless false m n = n ≡ m
+
+-- what a call with its answer leaves: the state after it, what lies beyond the memory's words as it was, the whole
+-- memory as it was unless the call writes, and the book after its one move
 pub record Leaves {M B : Type 0} (words : M → List ℕ) (beyond : M → List (List ℕ)) (holding : B → Holdings) (R : B → Move → B → Type 0) (before : TheStore M B) (c : Call) (r : Result Answer Fault) (after : TheStore M B) : Type 0 where
   pub state : state_of words holding after ≡ state_after (state_of words holding before) c
   pub untouched : beyond after.memory ≡ beyond before.memory
+  pub kept : KeptUnless (writes c r) before.memory after.memory
   pub moved : MovedBy R before.book (move_of c r) after.book
 
 -- the releases that make a store fresh: of each thread below n in turn, the newest first
