@@ -4,4 +4,3 @@ pub mod Windows
 pub mod Images
 pub mod Fronts
 pub mod WindowsLemmas
-pub mod Answered
