@@ -1,4 +1,4 @@
-// The marks of one block: its own at home, and one for each board that has a copy.
+//! The marks of one block: its own at home, and one for each board that has a copy.
 ghost use Rattle.std.specs.Prelude.{◌≡◌, ◌-◌, ◌<◌, ◌≤◌, true, false, ◌∷◌, map, length, fold, None, ◌==◌, slice_index_or};
 ghost use Rattle.marks.specs.Codes.{code_of, copy_code_of};
 ghost use Rattle.marks.specs.Rules.{state_in};
@@ -22,7 +22,7 @@ pub(crate) struct Block {
 impl Block {
     ghost use Rattle.board.specs.Shown.{marks_of};
 
-    // No token taken, no copy.
+    /// No token taken, no copy.
     pub(crate) fn fresh() -> Block
         ensures { marks_of result ≡ untouched }
     {
@@ -32,7 +32,7 @@ impl Block {
         }
     }
 
-    // Fuses home with every copy in board order; the copies go.
+    /// Fuses home with every copy in board order; the copies go.
     pub(crate) fn gather(&mut self)
         requires { Coherent (marks_of self.old).home (marks_of self.old).copies }
         ensures { marks_of self.new ≡ gathered (marks_of self.old) }
@@ -40,7 +40,7 @@ impl Block {
         fuse_all(&mut self.home, &mut self.copies);
     }
 
-    // Fuses home with the board's copy; that copy goes.
+    /// Fuses home with the board's copy; that copy goes.
     pub(crate) fn withdraw(&mut self, board: Board)
         requires { Fuses (marks_of self.old).home (slice_index_or (marks_of self.old).copies board.number None) }
         ensures { marks_of self.new ≡ withdrawn (marks_of self.old) board.number }
@@ -51,14 +51,14 @@ impl Block {
         self.home = fuse_copy(self.home, copy);
     }
 
-    // The board's copy, or where it has none the one that a split of home gives. A split leaves home as it was.
+    /// The board's copy, or where it has none the one that a split of home gives. A split leaves home as it was.
     fn copy_for(&self, board: Board) -> Mark
         ensures { result.state ≡ copy_or_split (marks_of self.now) board.number }
     {
         self.copies[board.index()].unwrap_or_else(|| self.home.split().1)
     }
 
-    // Takes one token for the thread from its board's copy, unless that shows a writer.
+    /// Takes one token for the thread from its board's copy, unless that shows a writer.
     pub(crate) fn load(&mut self, board: Board, thread: Thread) -> Result<(), Fault>
         requires { is_writer (copy_or_split (marks_of self.old) board.number) ≡ false → in_range (read_by thread.number (copy_or_split (marks_of self.old) board.number)) ≡ true }
         ensures answer { result ≡ load_answer (copy_or_split (marks_of self.old) board.number) }
@@ -72,8 +72,8 @@ impl Block {
         Ok(())
     }
 
-    // Makes the thread the block's writer where the debit at home is that thread's own credit.
-    // Says whether it is.
+    /// Makes the thread the block's writer where the debit at home is that thread's own credit.
+    /// Says whether it is.
     pub(crate) fn store(&mut self, thread: Thread, credit: Credit) -> bool
         ensures answer { result ≡ (debit_of (marks_of self.old).home == credit.tokens) }
         ensures after { marks_of self.new ≡ written_if result thread.number (marks_of self.old) }
@@ -85,7 +85,7 @@ impl Block {
         own
     }
 
-    // Takes a credit off the debit that home shows.
+    /// Takes a credit off the debit that home shows.
     pub(crate) fn relieve(&mut self, credit: Credit)
         requires { debit_of (marks_of self.old).home - credit.tokens < 64 }
         ensures home { (marks_of self.new).home ≡ Anonymous (debit_of (marks_of self.old).home - credit.tokens) }
@@ -95,8 +95,8 @@ impl Block {
         self.home = mark(Metastate::Anonymous(left));
     }
 
-    // The tokens that the marks show as taken: all where any of them shows a writer, otherwise
-    // their sum.
+    /// The tokens that the marks show as taken: all where any of them shows a writer, otherwise
+    /// their sum.
     pub(crate) fn tokens(&self) -> u64
         ensures { result ≡ shown_by (marks_of self.now) }
     {
@@ -110,7 +110,7 @@ impl Block {
             .tokens()
     }
 
-    // The codes of the five marks, home first.
+    /// The codes of the five marks, home first.
     pub(crate) fn codes(&self) -> [u64; 5]
         ensures { result ≡ code_of (marks_of self.now).home ∷ map copy_code_of (marks_of self.now).copies }
     {
@@ -120,7 +120,7 @@ impl Block {
     }
 }
 
-// The mark of a metastate that is in range.
+/// The mark of a metastate that is in range.
 fn mark(state: Metastate) -> Mark
     requires { in_range state ≡ true }
     ensures { result.state ≡ state }
@@ -128,7 +128,7 @@ fn mark(state: Metastate) -> Mark
     Mark::new(state).unwrap()
 }
 
-// Home with a board's copy fused in, if there is one. In a book in balance no fusion is refused.
+/// Home with a board's copy fused in, if there is one. In a book in balance no fusion is refused.
 fn fuse_copy(home: Mark, copy: Option<Mark>) -> Mark
     requires { Fuses home.state (state_in copy) }
     ensures { result.state ≡ fused home.state (state_in copy) }
@@ -136,7 +136,7 @@ fn fuse_copy(home: Mark, copy: Option<Mark>) -> Mark
     copy.map_or(home, |copy| home.fuse(copy).unwrap())
 }
 
-// Fuses every copy into home, in board order; the copies go. Nothing is written where a board has none.
+/// Fuses every copy into home, in board order; the copies go. Nothing is written where a board has none.
 fn fuse_all(home: &mut Mark, copies: &mut [Option<Mark>; 4])
     requires { Coherent home.old.state (map state_in copies.old) }
     ensures home { home.new.state ≡ fold fused home.old.state (map state_in copies.old) }
@@ -149,7 +149,7 @@ fn fuse_all(home: &mut Mark, copies: &mut [Option<Mark>; 4])
     }
 }
 
-// The copy from which one token more was taken.
+/// The copy from which one token more was taken.
 fn read_by(thread: u64, copy: Mark) -> Mark
     requires { in_range (read_by thread copy.state) ≡ true }
     ensures { result.state ≡ read_by thread copy.state }
@@ -162,14 +162,14 @@ fn read_by(thread: u64, copy: Mark) -> Mark
     }
 }
 
-// Whether a copy, if there is one, shows a writer.
+/// Whether a copy, if there is one, shows a writer.
 fn shows_writer(copy: Option<Mark>) -> bool
     ensures { result ≡ writer_in (state_in copy) }
 {
     copy.is_some_and(|mark| matches!(mark.state(), Metastate::Writer(_)))
 }
 
-// The debit that a copy shows, if there is one.
+/// The debit that a copy shows, if there is one.
 fn copy_debit(copy: Option<Mark>) -> Debit
     ensures value { result.tokens ≡ debit_in (state_in copy) }
     ensures limit { result.tokens ≤ 64 }

@@ -1,5 +1,5 @@
-// The ledger of the board book: debits on the marks of the blocks, credits in the token logs. It is
-// always in balance: a function that writes both sides does so before the ledger is used again.
+//! The ledger of the board book: debits on the marks of the blocks, credits in the token logs. It is
+//! always in balance: a function that writes both sides does so before the ledger is used again.
 ghost use Rattle.std.specs.Prelude.{◌≡◌, ℕ, ◌-◌, ◌<◌, ◌≤◌, length, Ok, nat_lt};
 ghost use Rattle.marks.specs.States.{debit_of};
 ghost use Rattle.book.specs.Balance.{Balanced};
@@ -16,7 +16,7 @@ use book::{BlockNumber, Board, Take, Thread, check_board};
 use fault::Fault;
 use marks::{Credit, TOKENS};
 
-// What is kept of a thread: the board that it works on, and the tokens that it took.
+/// What is kept of a thread: the board that it works on, and the tokens that it took.
 #[derive(Clone, Copy)]
 pub(crate) struct Account {
     board: Board,
@@ -35,7 +35,7 @@ impl Ledger {
 
     // thread and block are two parameters, as the trait Book asks for them
 
-    // No token taken, every thread on board 0.
+    /// No token taken, every thread on board 0.
     pub(crate) fn fresh() -> Ledger
         ensures { drawn result ≡ fresh_picture }
     {
@@ -49,21 +49,21 @@ impl Ledger {
         }
     }
 
-    // The thread's credit on the block.
+    /// The thread's credit on the block.
     pub(crate) fn credit(&self, thread: Thread, block: BlockNumber) -> Credit
         ensures { result.tokens ≡ holdings_of (drawn self.now) thread.number block.number }
     {
         self.accounts[thread.index()].log.credit(block)
     }
 
-    // Whether the thread has any.
+    /// Whether the thread has any.
     fn holds(&self, thread: Thread, block: BlockNumber) -> bool
         ensures { result ≡ nat_lt 0 (holdings_of (drawn self.now) thread.number block.number) }
     {
         self.accounts[thread.index()].log.holds(block)
     }
 
-    // The lowest-numbered other thread with credit on the block. Only a refused store asks.
+    /// The lowest-numbered other thread with credit on the block. Only a refused store asks.
     #[cold]
     #[inline(never)]
     fn other_holder(&self, thread: Thread, block: BlockNumber) -> Option<u64>
@@ -76,7 +76,7 @@ impl Ledger {
             .map(|other| other as u64)
     }
 
-    // Notes the thread's board.
+    /// Notes the thread's board.
     pub(crate) fn seat(&mut self, thread: Thread, board: Board)
         ensures after { drawn self.new ≡ seat_picture (drawn self.old) thread.number board.number }
         ensures held { holdings_of (drawn self.new) ≡ holdings_of (drawn self.old) }
@@ -84,7 +84,7 @@ impl Ledger {
         self.accounts[thread.index()].board = board;
     }
 
-    // Has the board give up its copy of the block.
+    /// Has the board give up its copy of the block.
     pub(crate) fn drop_copy(&mut self, board: Board, block: BlockNumber)
         ensures after { drawn self.new ≡ drop_picture (drawn self.old) board.number block.number }
         ensures held { holdings_of (drawn self.new) ≡ holdings_of (drawn self.old) }
@@ -94,7 +94,7 @@ impl Ledger {
         blocks[block.index()].withdraw(board);
     }
 
-    // Takes a token for a load, unless the thread has credit.
+    /// Takes a token for a load, unless the thread has credit.
     pub(crate) fn load(&mut self, thread: Thread, block: BlockNumber) -> Result<(), Fault>
         ensures answer { result ≡ load_take (holdings_of (drawn self.old)) thread.number block.number }
         ensures after { drawn self.new ≡ load_picture (drawn self.old) thread.number block.number }
@@ -106,7 +106,7 @@ impl Ledger {
         self.take_one(thread, block)
     }
 
-    // A load by a thread without credit: one token, from its board's copy.
+    /// A load by a thread without credit: one token, from its board's copy.
     fn take_one(&mut self, thread: Thread, block: BlockNumber) -> Result<(), Fault>
         requires { holdings_of (drawn self.old) thread.number block.number ≡ 0 }
         ensures answer { result ≡ load_take (holdings_of (drawn self.old)) thread.number block.number }
@@ -121,7 +121,7 @@ impl Ledger {
         Ok(())
     }
 
-    // Takes all tokens for a store, unless the thread has them.
+    /// Takes all tokens for a store, unless the thread has them.
     pub(crate) fn store(&mut self, thread: Thread, block: BlockNumber) -> Result<(), Fault>
         ensures answer { result ≡ store_take (holdings_of (drawn self.old)) thread.number block.number }
         ensures after { drawn self.new ≡ store_picture (drawn self.old) thread.number block.number }
@@ -134,8 +134,8 @@ impl Ledger {
         self.take_all(thread, block, credit)
     }
 
-    // A store by a thread with credit below 64: gathers the block and takes the rest, if no other
-    // thread has any.
+    /// A store by a thread with credit below 64: gathers the block and takes the rest, if no other
+    /// thread has any.
     fn take_all(&mut self, thread: Thread, block: BlockNumber, credit: Credit) -> Result<(), Fault>
         requires own { credit.tokens ≡ holdings_of (drawn self.old) thread.number block.number }
         requires short { credit.tokens < 64 }
@@ -157,7 +157,7 @@ impl Ledger {
         Err(Take::Store.refused_by(self.other_holder(thread, block).unwrap()))
     }
 
-    // Gives back all that the thread took, and answers how many records said so.
+    /// Gives back all that the thread took, and answers how many records said so.
     pub(crate) fn release(&mut self, thread: Thread) -> u64
         ensures answer { result ≡ length ((drawn self.old).logs thread.number) }
         ensures bounds { Released (holdings_of (drawn self.old)) thread.number (Ok result) }
@@ -170,14 +170,14 @@ impl Ledger {
         account.log.give_back(&mut self.blocks)
     }
 
-    // The tokens that the block's marks show as taken.
+    /// The tokens that the block's marks show as taken.
     pub(crate) fn tokens(&self, block: BlockNumber) -> u64
         ensures { result ≡ shown (drawn self.now) block.number }
     {
         self.blocks[block.index()].tokens()
     }
 
-    // The codes of the block's marks, home first.
+    /// The codes of the block's marks, home first.
     pub(crate) fn codes(&self, block: BlockNumber) -> [u64; 5]
         ensures { result ≡ codes_of (drawn self.now) block.number }
     {

@@ -1,5 +1,5 @@
-// The board book: tokens are shown by marks on the boards and recorded in token logs, after
-// TokenTM.
+//! The board book: tokens are shown by marks on the boards and recorded in token logs, after
+//! TokenTM.
 #![tactic(auto)]
 
 ghost use Rattle.std.specs.Prelude.{◌≡◌};
@@ -17,15 +17,15 @@ mod ledger;
 mod record;
 mod tokens;
 
-// Keeps every token twice: as a debit on the marks of its block, and as a credit in the token log
-// of its thread.
+/// Keeps every token twice: as a debit on the marks of its block, and as a credit in the token log
+/// of its thread.
 #[derive(Drop)]
 pub struct BoardBook {
     ledger: Ledger,
 }
 
 impl BoardBook {
-    // A book with no token taken and every thread on board 0.
+    /// A book with no token taken and every thread on board 0.
     pub fn new() -> BoardBook
         ensures { drawn result.ledger ≡ fresh_picture }
     {
@@ -42,7 +42,7 @@ impl Book for BoardBook {
 
     ghost sound = { λ k. balanced_sound (drawn k.ledger) (balanced_from (drawn k.ledger) k.ledger.balanced) };
 
-    // Public calls take any number, so each checks its own first, in the order of the refusals.
+    /// Public calls take any number, so each checks its own first, in the order of the refusals.
     fn take_for_load(&mut self, thread: u64, block: u64) -> Result<(), Fault> {
         let thread = check_thread(thread)?;
         let block = check_block(block)?;

@@ -1,11 +1,11 @@
-// What a token log records.
+//! What a token log records.
 ghost use Rattle.std.specs.Prelude.{◌<◌};
 
 use book::BlockNumber;
 use marks::Credit;
 use record_log::Keyed;
 
-// Tokens of one block, taken at one time: one at least.
+/// Tokens of one block, taken at one time: one at least.
 #[derive(Clone, Copy)]
 pub(crate) struct TokenRecord {
     pub(crate) block: BlockNumber,

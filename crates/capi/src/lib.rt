@@ -1,4 +1,4 @@
-// The store as a static library for C: each export calls `lent` over a fresh book. include/shore.h declares them for C.
+//! The store as a static library for C: each export calls `lent` over a fresh book. include/shore.h declares them for C.
 #![tactic(auto)]
 
 ghost use Rattle.std.specs.Prelude.{◌≡◌, MatchBool};
@@ -11,7 +11,7 @@ use fault::Fault;
 use full::FullBook;
 use std::alloc::Global;
 
-// Runs a script on the board book over 512 zero words. Where there is no memory the answer is `false`, here and below.
+/// Runs a script on the board book over 512 zero words. Where there is no memory the answer is `false`, here and below.
 #[unsafe(no_mangle)]
 pub extern "C" fn shore_run(
     alloc: Global,
@@ -32,14 +32,14 @@ pub extern "C" fn shore_run(
     true
 }
 
-// The number of the line at which a run stopped early, or 0.
+/// The number of the line at which a run stopped early, or 0.
 fn line_of(stopped: Option<Fault>) -> u64
     ensures { result ≡ line_of stopped }
 {
     stopped.map_or(0, Fault::place)
 }
 
-// Makes calls on the board book over the blocks of a table.
+/// Makes calls on the board book over the blocks of a table.
 #[unsafe(no_mangle)]
 pub extern "C" fn shore_replay_board(
     alloc: Global,
@@ -59,7 +59,7 @@ pub extern "C" fn shore_replay_board(
     true
 }
 
-// The same on the full book.
+/// The same on the full book.
 #[unsafe(no_mangle)]
 pub extern "C" fn shore_replay_full(
     alloc: Global,

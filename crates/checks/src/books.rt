@@ -1,4 +1,4 @@
-// Both books on the same worked sequences: the same answers and holdings, each with its own figures.
+//! Both books on the same worked sequences: the same answers and holdings, each with its own figures.
 use crate::found::same;
 use board::BoardBook;
 use book::{Book, Marked};
@@ -7,7 +7,7 @@ use full::FullBook;
 use std::process::Abort;
 use std::test::Fail;
 
-// What is asked of a book, with the numbers in the order of its methods.
+/// What is asked of a book, with the numbers in the order of its methods.
 #[derive(Clone, Copy, Debug)]
 enum Asked {
     Load(u64, u64),
@@ -18,7 +18,7 @@ enum Asked {
     Drop(u64, u64),
 }
 
-// The book's answer: no number where it only grants.
+/// The book's answer: no number where it only grants.
 fn answer_of<B: Book>(book: &mut B, asked: Asked) -> Result<Option<u64>, Fault> {
     match asked {
         Asked::Load(thread, block) => book.take_for_load(thread, block).map(|()| None),
@@ -50,8 +50,8 @@ fn answers<B: Book>(
     }
 }
 
-// Loads from several boards, a refused store, drops, and a store once the other readers are gone. The last release is
-// of a thread that loaded a block and then stored there, and loaded another: its figure is the book's own.
+/// Loads from several boards, a refused store, drops, and a store once the other readers are gone. The last release is
+/// of a thread that loaded a block and then stored there, and loaded another: its figure is the book's own.
 fn worked<B: Book>(rt: &impl Abort, book: &mut B, figure: u64) {
     answers(
         rt,
@@ -83,7 +83,7 @@ fn worked<B: Book>(rt: &impl Abort, book: &mut B, figure: u64) {
     );
 }
 
-// Thread, board and block are refused in this order, before anything else is looked at.
+/// Thread, board and block are refused in this order, before anything else is looked at.
 fn edges<B: Book>(rt: &impl Abort, book: &mut B) {
     let no_thread = refused(Refusal::ThreadOutOfRange(16));
     let no_board = refused(Refusal::BoardOutOfRange(4));

@@ -1,4 +1,4 @@
-// The worked examples, made at run time.
+//! The worked examples, made at run time.
 use crate::found::same;
 use examples::{Ended, worked_examples};
 use fault::{Layer, Refusal};

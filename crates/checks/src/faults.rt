@@ -1,4 +1,4 @@
-// Faults as they are printed: the layer's letter, the number and the place.
+//! Faults as they are printed: the layer's letter, the number and the place.
 use fault::{Layer, Refusal};
 use std::test::Fail;
 

@@ -1,4 +1,4 @@
-// Worked cases over all layers, proved to be safe and then run.
+//! Worked cases over all layers, proved to be safe and then run.
 #![tactic(auto)]
 
 #[cfg(test)]

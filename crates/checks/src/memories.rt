@@ -1,4 +1,4 @@
-// Memories at their boundaries.
+//! Memories at their boundaries.
 use crate::found::same;
 use fault::{Fault, Layer, Refusal};
 use memory::{Image, Memory, Plain, Window};
@@ -8,12 +8,12 @@ fn past_the_end(address: u64) -> Fault {
     Layer::Memory.refuses(Refusal::AddressOutOfRange(address))
 }
 
-// Words 1, 2, 3 and so on.
+/// Words 1, 2, 3 and so on.
 fn counting(rt: &HostRuntime, count: u64) -> Result<Plain, Fail> {
     Ok(Plain::over((1..=count).collect(rt.alloc())?))
 }
 
-// Whether the memory has so many blocks, and none of the words behind them.
+/// Whether the memory has so many blocks, and none of the words behind them.
 fn ends_at<M: Memory + Drop>(memory: M, blocks: u64) -> bool {
     memory.size() == blocks && memory.read(8 * blocks) == Err(past_the_end(8 * blocks))
 }

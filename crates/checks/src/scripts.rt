@@ -1,10 +1,10 @@
-// Scripts at the edges of their format, run on a fresh board book over 16 words.
+//! Scripts at the edges of their format, run on a fresh board book over 16 words.
 use board::BoardBook;
 use console::run_fresh;
 use memory::Plain;
 use std::test::Fail;
 
-// Whether the script's report, in a buffer of so many bytes, is as expected, and every byte behind it still 33.
+/// Whether the script's report, in a buffer of so many bytes, is as expected, and every byte behind it still 33.
 fn reports(rt: &HostRuntime, script: &[u8], size: usize, expected: &[u8]) -> Result<bool, Fail> {
     let mut report = vec![in rt.alloc(); 33u8; size]?;
     let table = Plain::over(vec![in rt.alloc(); 5; 16]?);

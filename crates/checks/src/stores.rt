@@ -1,4 +1,4 @@
-// The store on worked lists of calls, by thread number and through held jobs.
+//! The store on worked lists of calls, by thread number and through held jobs.
 use crate::found::same;
 use board::BoardBook;
 use book::Book;
@@ -32,13 +32,13 @@ fn past_the_end(address: u64) -> Result<Answer, Fault> {
     Err(Layer::Memory.refuses(Refusal::AddressOutOfRange(address)))
 }
 
-// A store over so many words, all 10, with a fresh book.
+/// A store over so many words, all 10, with a fresh book.
 fn tens<B: Book + Drop>(rt: &HostRuntime, words: usize, book: B) -> Result<Store<Plain, B>, Fail> {
     let memory = Plain::over(vec![in rt.alloc(); 10; words]?);
     Ok(Store::fresh(memory, book))
 }
 
-// Makes the calls, each of which has the answer beside it.
+/// Makes the calls, each of which has the answer beside it.
 fn makes<B: Book>(
     rt: &impl Abort,
     store: &mut Store<Plain, B>,
@@ -173,14 +173,14 @@ fn jobs_on_different_blocks(rt: HostRuntime) -> Result<(), Fail> {
     Ok(())
 }
 
-// Whether the memory has these words at these addresses.
+/// Whether the memory has these words at these addresses.
 fn holds(rt: &impl Abort, memory: &Plain, expected: &[(u64, u64)]) {
     for (address, word) in expected {
         assert_eq!(rt; memory.read(*address), Ok(*word), "at {address}");
     }
 }
 
-// What a held job is asked for.
+/// What a held job is asked for.
 #[derive(Clone, Copy)]
 enum Access {
     Load(u64),

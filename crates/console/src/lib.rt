@@ -1,4 +1,4 @@
-// The console: runs a script on any store and writes its report.
+//! The console: runs a script on any store and writes its report.
 #![tactic(auto)]
 
 ghost use Rattle.std.specs.Prelude.{◌≡◌, ◌+◌, ◌≤◌, [], ◌∷◌, ◌++◌, length, take, drop};
@@ -15,8 +15,8 @@ use memory::Memory;
 use script::{parse, put_row};
 use store::{Answer, Store};
 
-// Runs one line: its call, or its text refusal.
-// `Within` stands here, at add_row and at the rows in script, since an outcome in range has no type of its own: Answer is what any store answers.
+/// Runs one line: its call, or its text refusal.
+/// `Within` stands here, at add_row and at the rows in script, since an outcome in range has no type of its own: Answer is what any store answers.
 fn run_line<M: Memory, B: Book>(store: &mut Store<M, B>, line: &[u8]) -> Result<Answer, Fault>
     ensures text { TextRight (record { number = 0; line = line.now; outcome = result }) }
     ensures within { Within result }
@@ -27,7 +27,7 @@ fn run_line<M: Memory, B: Book>(store: &mut Store<M, B>, line: &[u8]) -> Result<
     store.call(parse(line)?)
 }
 
-// Writes the row at the fill mark, where 64 bytes are free, and answers its length.
+/// Writes the row at the fill mark, where 64 bytes are free, and answers its length.
 fn add_row(report: &mut [u8], fill: usize, line: u64, outcome: Result<Answer, Fault>) -> usize
     requires within { Within outcome }
     requires room { fill + 64 ≤ length report.old }
@@ -38,15 +38,15 @@ fn add_row(report: &mut [u8], fill: usize, line: u64, outcome: Result<Answer, Fa
     put_row(&mut report[fill..], line, outcome).unwrap()
 }
 
-// How far a script came: the bytes of the report that are filled, and the refusal by which it stopped early.
-// The report stays the caller's, so a run answers its fill mark beside it.
+/// How far a script came: the bytes of the report that are filled, and the refusal by which it stopped early.
+/// The report stays the caller's, so a run answers its fill mark beside it.
 #[derive(Clone, Copy, PartialEq, Eq, Debug)]
 pub struct Ran {
     pub fill: usize,
     pub stopped: Option<Fault>,
 }
 
-// Runs a script line by line: a row for each line that is not empty, from the fill mark onward, as long as 64 bytes are free.
+/// Runs a script line by line: a row for each line that is not empty, from the fill mark onward, as long as 64 bytes are free.
 pub fn run<M: Memory, B: Book>(store: &mut Store<M, B>, script: &[u8], report: &mut [u8]) -> Ran
     ensures { Reported M.Memory.beyond B.Book.holding B.Book.moves (state_of M.Memory.words B.Book.holding store.old) store.old script.now report.old result report.new (state_of M.Memory.words B.Book.holding store.new) store.new }
 {
@@ -69,8 +69,8 @@ pub fn run<M: Memory, B: Book>(store: &mut Store<M, B>, script: &[u8], report: &
     }
 }
 
-// Runs a script on a fresh store over a memory and a book with marks, and gives the store back beside how far it came.
-// This is the call that the program `station` makes.
+/// Runs a script on a fresh store over a memory and a book with marks, and gives the store back beside how far it came.
+/// This is the call that the program `station` makes.
 pub fn run_fresh<M: Memory, B: Marked>(
     memory: M,
     book: B,

@@ -1,11 +1,11 @@
-// The lines of a script, one after the other.
+//! The lines of a script, one after the other.
 ghost use Rattle.std.specs.Iterator.{YieldsFirstBy, item_count};
 ghost use Rattle.script.specs.Pieces.{lines_of};
 
 use script::split_line;
 
-// What is left of a script.
-// By hand: the contract names lines_of, `split` has one more line, an empty one, behind a last byte 10, and `split_inclusive` leaves byte 10 on.
+/// What is left of a script.
+/// By hand: the contract names lines_of, `split` has one more line, an empty one, behind a last byte 10, and `split_inclusive` leaves byte 10 on.
 #[derive(Drop)]
 pub(crate) struct Lines<'a> {
     pub(crate) rest: &'a [u8],

@@ -1,4 +1,4 @@
-// Two jobs of thread 1, each alone on a fresh store over words that are all 10.
+//! Two jobs of thread 1, each alone on a fresh store over words that are all 10.
 ghost use Rattle.std.specs.Prelude.{◌≡◌, ℕ};
 ghost use Rattle.examples.specs.Jobs.{tens, Aborted, Committed};
 
@@ -7,14 +7,14 @@ use fault::Fault;
 use memory::Memory;
 use store::Store;
 
-// What the end of a job answered, and the word that the job stored to, read back from the memory afterwards.
+/// What the end of a job answered, and the word that the job stored to, read back from the memory afterwards.
 #[derive(Clone, Copy, PartialEq, Eq, Debug)]
 pub struct Ended {
     pub answer: (u64, u64),
     pub word: u64,
 }
 
-// Stores 15 and then 20 at address 3, and aborts.
+/// Stores 15 and then 20 at address 3, and aborts.
 pub(crate) fn abort_two_stores<M: Memory + Drop, B: Book + Drop>(
     memory: M,
     book: B,
@@ -31,7 +31,7 @@ pub(crate) fn abort_two_stores<M: Memory + Drop, B: Book + Drop>(
     Ok(Ended { answer, word })
 }
 
-// Loads the word at address 0, stores 11 there, and commits.
+/// Loads the word at address 0, stores 11 there, and commits.
 pub(crate) fn commit_load_and_store<M: Memory + Drop, B: Book + Drop>(
     memory: M,
     book: B,

@@ -1,5 +1,5 @@
-// Worked examples with their numbers, on the contract of one public function: marks fused and coded, a job that
-// is put back, and the figures of the two books for the same job.
+//! Worked examples with their numbers, on the contract of one public function: marks fused and coded, a job that
+//! is put back, and the figures of the two books for the same job.
 #![tactic(auto)]
 
 ghost use Rattle.std.specs.Prelude.{◌≡◌, true, IfOk};
@@ -20,31 +20,31 @@ use marks::{Mark, Metastate};
 use memory::Plain;
 use std::alloc::{AllocError, Global};
 
-// What the calls answered, example by example.
+/// What the calls answered, example by example.
 #[derive(Clone, Copy, PartialEq, Eq, Debug)]
 pub struct WorkedExamples {
-    // a reader's mark and one that shows nothing
+    /// a reader's mark and one that shows nothing
     pub reader_kept: Result<Mark, Fault>,
-    // two readers, and a third
+    /// two readers, and a third
     pub readers_counted: Result<Mark, Fault>,
     pub reader_added: Result<Mark, Fault>,
-    // a writer's mark and its copy, and one that is no copy of it
+    /// a writer's mark and its copy, and one that is no copy of it
     pub writer_kept: Result<Mark, Fault>,
     pub writer_refused: Result<Mark, Fault>,
-    // as many readers as a mark can show, and one more
+    /// as many readers as a mark can show, and one more
     pub most_readers: Result<Mark, Fault>,
     pub too_many_readers: Result<Mark, Fault>,
     pub reader_code: u64,
     pub writer_code: u64,
-    // a job that stores twice to one word, and aborts
+    /// a job that stores twice to one word, and aborts
     pub aborted_on_board: Result<Ended, Fault>,
     pub aborted_on_full: Result<Ended, Fault>,
-    // a job that loads a word, stores to it, and commits
+    /// a job that loads a word, stores to it, and commits
     pub committed_on_board: Result<Ended, Fault>,
     pub committed_on_full: Result<Ended, Fault>,
 }
 
-// The mark with a metastate in range.
+/// The mark with a metastate in range.
 fn mark(state: Metastate) -> Mark
     requires { in_range state ≡ true }
     ensures { result.state ≡ state }
@@ -67,14 +67,14 @@ fn code(state: Metastate) -> u64
     mark(state).code()
 }
 
-// One block of plain words, each 10.
+/// One block of plain words, each 10.
 fn one_block(alloc: Global) -> Result<Plain, AllocError>
     ensures { IfOk result (λ memory. plain memory ≡ tens) }
 {
     Ok(Plain::over(vec![in alloc; 10; 8]?))
 }
 
-// Makes the calls of all examples. Memory for the words is all that may be lacking.
+/// Makes the calls of all examples. Memory for the words is all that may be lacking.
 pub fn worked_examples(alloc: Global) -> Result<WorkedExamples, AllocError>
     ensures marks { IfOk result MarksWorked }
     ensures jobs { IfOk result JobsWorked }

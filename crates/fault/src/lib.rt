@@ -1,7 +1,7 @@
-// Refusals: every answer of the station that is not a granted one.
-//
-// A fault says which layer refused, and why. The number and the place of a refusal are what the
-// station prints; docs/REFUSALS.md lists them all.
+//! Refusals: every answer of the station that is not a granted one.
+//!
+//! A fault says which layer refused, and why. The number and the place of a refusal are what the
+//! station prints; docs/REFUSALS.md lists them all.
 #![tactic(auto)]
 
 ghost use Rattle.std.specs.Prelude.{◌≡◌, Some};
@@ -9,23 +9,23 @@ ghost use Rattle.fault.specs.Numbers.{letter_of, number_of, place_of, text_of};
 
 use std::fmt;
 
-// The layer that refused.
+/// The layer that refused.
 #[derive(Clone, Copy, PartialEq, Eq, Debug)]
 pub enum Layer {
-    // the script's text
+    /// the script's text
     Text,
-    // the store and its thread table
+    /// the store and its thread table
     Store,
-    // a memory
+    /// a memory
     Memory,
-    // a book of holdings
+    /// a book of holdings
     Book,
-    // the marks that a board book keeps
+    /// the marks that a board book keeps
     Marks,
 }
 
 impl Layer {
-    // The layer's letter in a report.
+    /// The layer's letter in a report.
     pub fn letter(self) -> char
         ensures { result ≡ letter_of self }
     {
@@ -38,7 +38,7 @@ impl Layer {
         }
     }
 
-    // The fault that the layer gives by a refusal.
+    /// The fault that the layer gives by a refusal.
     pub fn refuses(self, refusal: Refusal) -> Fault
         ensures { result ≡ record { layer = self; refusal = refusal } }
     {
@@ -49,41 +49,41 @@ impl Layer {
     }
 }
 
-// One case for each refusal, with the number that it carries.
+/// One case for each refusal, with the number that it carries.
 #[derive(Clone, Copy, PartialEq, Eq, Debug)]
 pub enum Refusal {
-    // 1: a thread above 15; carries the thread
+    /// 1: a thread above 15; carries the thread
     ThreadOutOfRange(u64),
-    // 2: a begin on a thread with an open job; carries the thread
+    /// 2: a begin on a thread with an open job; carries the thread
     JobOpen(u64),
-    // 3: a load, store, commit or abort on a thread without an open job; carries the thread
+    /// 3: a load, store, commit or abort on a thread without an open job; carries the thread
     NoJobOpen(u64),
-    // 4: an address past the memory's last word; carries the address
+    /// 4: an address past the memory's last word; carries the address
     AddressOutOfRange(u64),
-    // 5: a store to an address that the full undo log lacks; carries the address
+    /// 5: a store to an address that the full undo log lacks; carries the address
     UndoLogFull(u64),
-    // 6: another thread holds all tokens of the block to be loaded from; carries that thread
+    /// 6: another thread holds all tokens of the block to be loaded from; carries that thread
     LoadConflict(u64),
-    // 7: another thread holds a token of the block to be stored to; carries the lowest such thread
+    /// 7: another thread holds a token of the block to be stored to; carries the lowest such thread
     StoreConflict(u64),
-    // 8: a board above 3; carries the board
+    /// 8: a board above 3; carries the board
     BoardOutOfRange(u64),
-    // 9: a block above 63; carries the block
+    /// 9: a block above 63; carries the block
     BlockOutOfRange(u64),
-    // 10: two marks that cannot stand for one block together; carries the sum of both
+    /// 10: two marks that cannot stand for one block together; carries the sum of both
     MarksApart(u64),
-    // 11: a line whose first field is no command letter; that field's position is always 1
+    /// 11: a line whose first field is no command letter; that field's position is always 1
     UnknownCommand,
-    // 12: a line with the wrong number of fields; carries the number found
+    /// 12: a line with the wrong number of fields; carries the number found
     WrongFieldCount(u64),
-    // 13: a field that is no number; carries its position, the command letter being 1
+    /// 13: a field that is no number; carries its position, the command letter being 1
     NotANumber(u64),
-    // 14: too little room left in the report; carries the number of the line that was not run
+    /// 14: too little room left in the report; carries the number of the line that was not run
     ReportFull(u64),
 }
 
 impl Refusal {
-    // The refusal's number.
+    /// The refusal's number.
     pub fn number(self) -> u64
         ensures { result ≡ number_of self }
     {
@@ -105,7 +105,7 @@ impl Refusal {
         }
     }
 
-    // What the refusal carries: the thread, address, block, sum, field or line that it is about.
+    /// What the refusal carries: the thread, address, block, sum, field or line that it is about.
     pub fn place(self) -> u64
         ensures { result ≡ place_of self }
     {
@@ -128,7 +128,7 @@ impl Refusal {
     }
 }
 
-// A refusal, with the layer that gave it. Layers above pass it on whole.
+/// A refusal, with the layer that gave it. Layers above pass it on whole.
 #[derive(Clone, Copy, PartialEq, Eq, Debug)]
 pub struct Fault {
     pub layer: Layer,

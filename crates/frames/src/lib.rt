@@ -1,4 +1,4 @@
-// Frames of a buoy report: blocks of eight big-endian words, unpacked into a table of words.
+//! Frames of a buoy report: blocks of eight big-endian words, unpacked into a table of words.
 #![tactic(auto)]
 
 ghost use Rattle.std.specs.Prelude.{◌≡◌, Ok, IsOk, IfOk};
@@ -7,7 +7,7 @@ ghost use Rattle.frames.specs.Frames.{copied, count_of, unpacked_answer, unpacke
 use fault::Fault;
 use memory::{Image, Memory, Plain, Window};
 
-// Copies word by word, up to the end of the smaller memory, and answers how many words were copied.
+/// Copies word by word, up to the end of the smaller memory, and answers how many words were copied.
 #[tactic(auto, using(crate::proofs::Copies::copying))]
 pub fn copy<S: Memory, D: Memory>(from: &S, to: &mut D) -> Result<u64, Fault>
     ensures answer { result ≡ Ok (count_of (S.Memory.words from.now) (D.Memory.words to.old)) }
@@ -23,7 +23,7 @@ pub fn copy<S: Memory, D: Memory>(from: &S, to: &mut D) -> Result<u64, Fault>
     Ok(count)
 }
 
-// What was unpacked, and how many bytes were left over behind it.
+/// What was unpacked, and how many bytes were left over behind it.
 #[derive(Clone, Copy, PartialEq, Eq, Debug)]
 pub struct Unpacked {
     pub blocks: u64,
@@ -31,8 +31,8 @@ pub struct Unpacked {
     pub trailing: u64,
 }
 
-// Unpacks the whole frames of a report into the front of a table, as many as there are and as the table has room for.
-// The table is given back beside what was done.
+/// Unpacks the whole frames of a report into the front of a table, as many as there are and as the table has room for.
+/// The table is given back beside what was done.
 #[tactic(auto, using(crate::proofs::Unpacks::unpacking))]
 pub fn unpack(report: &Image, table: Plain) -> Result<(Plain, Unpacked), Fault>
     ensures granted { IsOk result }

@@ -1,4 +1,4 @@
-// What one thread holds of one block.
+//! What one thread holds of one block.
 ghost use Rattle.std.specs.Prelude.{◌≡◌, nat_le};
 ghost use Rattle.book.specs.Holdings.{wanted, barred_by};
 ghost use Rattle.full.specs.Held.{tokens_of};
@@ -35,14 +35,14 @@ impl Holding {
         }
     }
 
-    // Whether its own thread may go on without taking more.
+    /// Whether its own thread may go on without taking more.
     pub(crate) fn suffices(self, take: Take) -> bool
         ensures { result ≡ nat_le (wanted take) (tokens_of self) }
     {
         self >= Holding::from(take)
     }
 
-    // Whether it refuses the take to any other thread.
+    /// Whether it refuses the take to any other thread.
     pub(crate) fn bars(self, take: Take) -> bool
         ensures { result ≡ nat_le (barred_by take) (tokens_of self) }
     {

@@ -1,4 +1,4 @@
-// The full book: a table of all holdings, sixteen threads by sixty-four blocks.
+//! The full book: a table of all holdings, sixteen threads by sixty-four blocks.
 #![tactic(auto)]
 
 ghost use Rattle.std.specs.Prelude.{◌≡◌};
@@ -18,7 +18,7 @@ mod holding;
 mod table;
 
 impl FullBook {
-    // A book in which nothing is held.
+    /// A book in which nothing is held.
     #[tactic(auto, using(crate::proofs::Rows::fresh_held, crate::proofs::Rows::fresh_kept))]
     pub fn new() -> FullBook
         ensures { held_in result.rows ≡ (λ t b. 0) }
@@ -28,7 +28,7 @@ impl FullBook {
         }
     }
 
-    // The lowest-numbered thread whose holding refuses the take.
+    /// The lowest-numbered thread whose holding refuses the take.
     fn in_the_way(&self, take: Take, thread: Thread, block: BlockNumber) -> Option<u64>
         ensures { Lowest (is_in_the_way take (held_in self.now.rows) thread.number block.number) 16 result }
     {
@@ -39,7 +39,7 @@ impl FullBook {
             .map(|other| other as u64)
     }
 
-    // A take of either kind. The thread's own holding is looked at first.
+    /// A take of either kind. The thread's own holding is looked at first.
     fn take_for(&mut self, take: Take, thread: u64, block: u64) -> Result<(), Fault>
         ensures answer { result ≡ take_answer take (held_in self.old.rows) thread block }
         ensures after { held_in self.new.rows ≡ after_take take (held_in self.old.rows) thread block }
@@ -56,7 +56,7 @@ impl FullBook {
         Ok(())
     }
 
-    // Empties the thread's row, and counts the blocks that it held tokens of.
+    /// Empties the thread's row, and counts the blocks that it held tokens of.
     fn clear(&mut self, thread: Thread) -> u64
         ensures answer { result ≡ blocks_held (held_in self.old.rows) thread.number }
         ensures after { held_in self.new.rows ≡ cleared (held_in self.old.rows) thread.number }
@@ -73,7 +73,7 @@ impl Book for FullBook {
 
     ghost sound = { λ k. sound_from (held_in k.rows) k.sound };
 
-    // Public calls take any number, so each checks its own first, in the order of the refusals.
+    /// Public calls take any number, so each checks its own first, in the order of the refusals.
     fn take_for_load(&mut self, thread: u64, block: u64) -> Result<(), Fault> {
         self.take_for(Take::Load, thread, block)
     }
@@ -93,14 +93,14 @@ impl Book for FullBook {
         Ok(self.rows[thread.index()][block.index()].tokens())
     }
 
-    // The table does not say where a thread sits.
+    /// The table does not say where a thread sits.
     fn seat(&mut self, thread: u64, board: u64) -> Result<(), Fault> {
         check_thread(thread)?;
         check_board(board)?;
         Ok(())
     }
 
-    // The table has no copies.
+    /// The table has no copies.
     fn drop_copy(&mut self, board: u64, block: u64) -> Result<(), Fault> {
         check_board(board)?;
         check_block(block)?;

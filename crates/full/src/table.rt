@@ -1,11 +1,11 @@
-// The table of the full book.
+//! The table of the full book.
 ghost use Rattle.std.specs.Prelude.{◌≡◌, All, length};
 ghost use Rattle.book.specs.Holdings.{Sound};
 ghost use Rattle.full.specs.Held.{held_in};
 
 use crate::holding::Holding;
 
-// Keeps every holding as such, a row of blocks for each thread.
+/// Keeps every holding as such, a row of blocks for each thread.
 #[derive(Drop)]
 pub struct FullBook {
     pub(crate) rows: [[Holding; 64]; 16],

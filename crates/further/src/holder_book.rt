@@ -1,4 +1,4 @@
-// A book that keeps for each block who holds it.
+//! A book that keeps for each block who holds it.
 ghost use Rattle.std.specs.Prelude.{◌≡◌, length};
 ghost use Rattle.book.specs.Holdings.{blocks_held, cleared};
 ghost use Rattle.book.specs.Rules.{take_answer, after_take};
@@ -17,7 +17,7 @@ pub struct HolderBook {
 }
 
 impl HolderBook {
-    // A book in which nothing is held.
+    /// A book in which nothing is held.
     #[tactic(auto, using(crate::proofs::Blocks::fresh_held))]
     pub fn new() -> HolderBook
         ensures { held_in result.blocks ≡ (λ t b. 0) }
@@ -39,7 +39,7 @@ impl HolderBook {
     }
 }
 
-// Takes the thread out of every block, and counts the blocks that it held tokens of.
+/// Takes the thread out of every block, and counts the blocks that it held tokens of.
 fn clear(blocks: &mut [Holders; 64], thread: Thread) -> u64
     ensures answer { result ≡ blocks_held (held_in blocks.old) thread.number }
     ensures after { held_in blocks.new ≡ cleared (held_in blocks.old) thread.number }
@@ -81,14 +81,14 @@ impl Book for HolderBook {
         Ok(self.blocks[block.index()].tokens(thread))
     }
 
-    // The holders do not say where a thread sits.
+    /// The holders do not say where a thread sits.
     fn seat(&mut self, thread: u64, board: u64) -> Result<(), Fault> {
         check_thread(thread)?;
         check_board(board)?;
         Ok(())
     }
 
-    // There are no copies.
+    /// There are no copies.
     fn drop_copy(&mut self, board: u64, block: u64) -> Result<(), Fault> {
         check_board(board)?;
         check_block(block)?;

@@ -1,4 +1,4 @@
-// Who holds tokens of one block.
+//! Who holds tokens of one block.
 ghost use Rattle.std.specs.Prelude.{◌≡◌, ℕ, ◌^◌, cond, ◌==◌};
 ghost use Rattle.std.specs.Int.{bit_at};
 ghost use Rattle.book.specs.Holdings.{Lowest};
@@ -7,10 +7,10 @@ ghost use Rattle.further.specs.Held.{tokens_of, TakenBy};
 use book::{Take, Thread};
 use fault::Fault;
 
-// Either some threads hold one token each or one thread holds all: no other holding can be written down.
+/// Either some threads hold one token each or one thread holds all: no other holding can be written down.
 #[derive(Clone, Copy, PartialEq, Eq)]
 pub(crate) enum Holders {
-    // bit t for thread t
+    /// bit t for thread t
     Readers(u16),
     Writer(Thread),
 }
@@ -25,7 +25,7 @@ impl Holders {
         }
     }
 
-    // The holders after a take by the thread, or the refusal that names the lowest-numbered thread in the way.
+    /// The holders after a take by the thread, or the refusal that names the lowest-numbered thread in the way.
     #[tactic(auto, using(crate::proofs::Sets::takes))]
     pub(crate) fn taken(self, take: Take, thread: Thread) -> Result<Holders, Fault>
         ensures { TakenBy take self thread.number result }
@@ -46,7 +46,7 @@ impl Holders {
         }
     }
 
-    // The holders once the thread has given back all that it held.
+    /// The holders once the thread has given back all that it held.
     pub(crate) fn without(self, thread: Thread) -> Holders
         ensures { (t : ℕ) → tokens_of result t ≡ cond (t == thread.number) 0 (tokens_of self t) }
     {
@@ -63,7 +63,7 @@ impl Holders {
     }
 }
 
-// The set of one thread.
+/// The set of one thread.
 fn bit_of(thread: Thread) -> u16
     ensures { result ≡ 2 ^ thread.number }
 {
@@ -77,7 +77,7 @@ fn without(set: u16, thread: Thread) -> u16
     set & !bit_of(thread)
 }
 
-// The lowest-numbered thread of a set.
+/// The lowest-numbered thread of a set.
 #[tactic(auto, using(crate::proofs::Sets::lowest_bit))]
 fn lowest(set: u16) -> Option<u64>
     ensures { Lowest (λ t. bit_at set t == 1) 16 result }

@@ -1,4 +1,4 @@
-// A further memory and a further book, written against nothing but the two traits: what the store promises holds over both.
+//! A further memory and a further book, written against nothing but the two traits: what the store promises holds over both.
 #![tactic(auto)]
 
 mod holder_book;

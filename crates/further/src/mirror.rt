@@ -1,11 +1,11 @@
-// Mirror: two memories that hold the same words.
+//! Mirror: two memories that hold the same words.
 ghost use Rattle.std.specs.Prelude.{◌≡◌, ◌++◌, ◌==◌, length, is_ok, IfOk, IfErr, slice_set};
 ghost use Rattle.memory.specs.Words.{write_answer};
 
 use fault::Fault;
 use memory::Memory;
 
-// Reads from the first, and writes to both.
+/// Reads from the first, and writes to both.
 #[derive(Drop)]
 pub struct Mirror<A: Memory, B: Memory> {
     first: A,
@@ -14,7 +14,7 @@ pub struct Mirror<A: Memory, B: Memory> {
 }
 
 impl<A: Memory, B: Memory> Mirror<A, B> {
-    // Copies the words of the first memory into the second. Gives both back as they were where their sizes differ.
+    /// Copies the words of the first memory into the second. Gives both back as they were where their sizes differ.
     pub fn over(first: A, mut second: B) -> Result<Self, (A, B)>
         ensures when { is_ok result ≡ (length (A.Memory.words first) == length (B.Memory.words second)) }
         ensures first { IfOk result (λ mirror. mirror.first ≡ first) }
@@ -43,7 +43,7 @@ impl<A: Memory, B: Memory> Mirror<A, B> {
         &self.second
     }
 
-    // Both memories, given back.
+    /// Both memories, given back.
     pub fn into_both(self) -> (A, B)
         ensures both { result ≡ (self.first, self.second) }
         ensures words { B.Memory.words result.1 ≡ A.Memory.words result.0 }
@@ -68,7 +68,7 @@ impl<A: Memory, B: Memory> Memory for Mirror<A, B> {
         self.first.read(address)
     }
 
-    // The trait's clauses stand again, since an impl that adds one (second) names them all.
+    /// The trait's clauses stand again, since an impl that adds one (second) names them all.
     fn write(&mut self, address: u64, word: u64) -> Result<(), Fault>
         ensures answer { result ≡ write_answer (A.Memory.words self.old.first) address }
         ensures after { A.Memory.words self.new.first ≡ slice_set (A.Memory.words self.old.first) address word }

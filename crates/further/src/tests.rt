@@ -1,4 +1,4 @@
-// The store over a mirror of words and bytes, with the book of holders.
+//! The store over a mirror of words and bytes, with the book of holders.
 use crate::{HolderBook, Mirror};
 use book::Book;
 use fault::{Fault, Layer, Refusal};
@@ -7,7 +7,7 @@ use std::process::Abort;
 use std::test::Fail;
 use store::{Answer, Call, Store, Turn};
 
-// Two blocks, of words that are all 10 and of bytes that become the same.
+/// Two blocks, of words that are all 10 and of bytes that become the same.
 fn tens(rt: &HostRuntime) -> Result<Mirror<Plain, Image>, Fail> {
     let words = Plain::over(vec![in rt.alloc(); 10; 16]?);
     let bytes = Image::over(vec![in rt.alloc(); 0; 128]?);
@@ -18,7 +18,7 @@ fn refused(refusal: Refusal) -> Result<Answer, Fault> {
     Err(Layer::Book.refuses(refusal))
 }
 
-// Calls and their answers: a job is seated elsewhere and aborted, others meet in two blocks, and the last one stays open.
+/// Calls and their answers: a job is seated elsewhere and aborted, others meet in two blocks, and the last one stays open.
 fn listed() -> [(Call, Result<Answer, Fault>); 26] {
     let done = Ok(Answer::Done);
     let ten = Ok(Answer::Word(10));
@@ -55,7 +55,7 @@ fn listed() -> [(Call, Result<Answer, Fault>); 26] {
     ]
 }
 
-// What the list leaves: thread 0 has stored in block 0, and both memories of the mirror hold the same words.
+/// What the list leaves: thread 0 has stored in block 0, and both memories of the mirror hold the same words.
 fn is_left(rt: &impl Abort, store: &Store<Mirror<Plain, Image>, HolderBook>) {
     assert_eq!(rt; store.book().held(0, 0), Ok(64));
     for address in 0..16 {

@@ -1,5 +1,5 @@
-// How a step reaches the station's words: by the loads and stores of one held job, or with each of them in a job of
-// its own.
+//! How a step reaches the station's words: by the loads and stores of one held job, or with each of them in a job of
+//! its own.
 use board::BoardBook;
 use fault::Fault;
 use held::HeldJob;
@@ -8,7 +8,7 @@ use store::Store;
 
 pub type Station = Store<Plain, BoardBook>;
 
-// station and access are two parameters everywhere: a job does not hold its store, so that several can be held.
+/// station and access are two parameters everywhere: a job does not hold its store, so that several can be held.
 pub trait Access {
     fn load(&self, station: &mut Station, place: u64) -> Result<u64, Fault>;
 
@@ -25,7 +25,7 @@ impl Access for HeldJob {
     }
 }
 
-// Each access in a job of its own, on this thread.
+/// Each access in a job of its own, on this thread.
 pub struct Alone(pub u64);
 
 impl Access for Alone {
@@ -40,8 +40,8 @@ impl Access for Alone {
     }
 }
 
-// Runs the work as a held job, and ends it on the way that the work went: a commit if all was granted, otherwise an
-// abort.
+/// Runs the work as a held job, and ends it on the way that the work went: a commit if all was granted, otherwise an
+/// abort.
 pub(crate) fn in_job<T: Drop, F: FnOnce(&mut Station, &HeldJob) -> Result<T, Fault> + Drop>(
     station: &mut Station,
     thread: u64,

@@ -1,5 +1,5 @@
-// One buoy report through its four steps over the board book: once with each step a held job, and once with each access
-// in a job of its own, where the outgoing record mixes two half hours.
+//! One buoy report through its four steps over the board book: once with each step a held job, and once with each access
+//! in a job of its own, where the outgoing record mixes two half hours.
 #![tactic(auto)]
 
 mod access;
@@ -14,9 +14,9 @@ use std::io;
 use steps::{Figure, Reading};
 use store::Store;
 
-// half hour 1: its number, six bands of the spectrum, a spare word
+/// half hour 1: its number, six bands of the spectrum, a spare word
 const FRAME_WORDS: [u64; 8] = [1, 1200, 9800, 21000, 7400, 1500, 300, 0];
-// what arrives while the record is written
+/// what arrives while the record is written
 const NEXT: Reading = Reading {
     height: Figure {
         hour: 2,
@@ -28,8 +28,8 @@ const NEXT: Reading = Reading {
     },
 };
 
-// How the four steps went, and another job's offer of the next half hour in the midst of the fourth: none is made where
-// the fourth step's job is not even begun.
+/// How the four steps went, and another job's offer of the next half hour in the midst of the fourth: none is made where
+/// the fourth step's job is not even begun.
 #[derive(Clone, Copy)]
 struct Outcomes {
     unpacked: Result<(), Fault>,
@@ -39,7 +39,7 @@ struct Outcomes {
     record: Result<Reading, Fault>,
 }
 
-// Each step a job: the offer is refused, since the job of the fourth step has read the height.
+/// Each step a job: the offer is refused, since the job of the fourth step has read the height.
 fn each_step_a_job(station: &mut Station) -> Outcomes {
     let unpacked = in_job(station, 0, |station, job| {
         steps::unpack(station, job, &FRAME_WORDS)
@@ -61,7 +61,7 @@ fn each_step_a_job(station: &mut Station) -> Outcomes {
     }
 }
 
-// Each access a job of its own: nothing holds the height while the offer comes in.
+/// Each access a job of its own: nothing holds the height while the offer comes in.
 fn each_access_a_job(station: &mut Station) -> Outcomes {
     let unpacked = steps::unpack(station, &Alone(0), &FRAME_WORDS);
     let fitted = steps::fit(station, &Alone(1));
@@ -79,7 +79,7 @@ fn each_access_a_job(station: &mut Station) -> Outcomes {
     }
 }
 
-// A refused step names the thread in words, in place of the fault's own text.
+/// A refused step names the thread in words, in place of the fault's own text.
 fn print_refused(rt: &HostRuntime, what: &str, fault: Fault) -> io::Result<()> {
     println!(rt;
         "{what}: refused by {} (thread {}), aborted",
@@ -112,7 +112,7 @@ fn print_outcomes(rt: &HostRuntime, outcomes: Outcomes) -> io::Result<()> {
     print_record(rt, "outgoing record", outcomes.record)
 }
 
-// The outgoing record as it was written, read back in a job.
+/// The outgoing record as it was written, read back in a job.
 fn print_written(rt: &HostRuntime, station: &mut Station) -> io::Result<()> {
     let record = in_job(station, 5, steps::load_record);
     print_record(rt, "thread 5 reads the outgoing record", record)

@@ -1,10 +1,10 @@
-// The four steps on one report, each written once for any way to reach the words, and another job's offer.
+//! The four steps on one report, each written once for any way to reach the words, and another job's offer.
 use crate::access::{Access, Station, in_job};
 use crate::figures;
 use fault::Fault;
 use std::fmt;
 
-// where the steps keep their words: each place has a block of its own
+/// where the steps keep their words: each place has a block of its own
 const FRAME: u64 = 0;
 
 const HEIGHT: u64 = 8;
@@ -15,14 +15,14 @@ const QUALITY: u64 = 24;
 
 const RECORD: u64 = 32;
 
-// A figure with the number of its half hour beside it.
+/// A figure with the number of its half hour beside it.
 #[derive(Clone, Copy)]
 pub struct Figure {
     pub hour: u64,
     pub value: u64,
 }
 
-// Both figures of a report.
+/// Both figures of a report.
 #[derive(Clone, Copy)]
 pub struct Reading {
     pub height: Figure,
@@ -43,7 +43,7 @@ fn load_figure<A: Access>(station: &mut Station, access: &A, place: u64) -> Resu
     Ok(Figure { hour, value })
 }
 
-// Each figure of the reading from a place of its own.
+/// Each figure of the reading from a place of its own.
 fn load_reading<A: Access>(
     station: &mut Station,
     access: &A,
@@ -65,7 +65,7 @@ fn store_figure<A: Access>(
     access.store(station, place.wrapping_add(1), figure.value)
 }
 
-// Each figure of the reading at a place of its own.
+/// Each figure of the reading at a place of its own.
 fn store_reading<A: Access>(
     station: &mut Station,
     access: &A,
@@ -77,7 +77,7 @@ fn store_reading<A: Access>(
     store_figure(station, access, period, reading.period)
 }
 
-// First step: the words of a frame (half hour, six bands, a spare word) go into the table.
+/// First step: the words of a frame (half hour, six bands, a spare word) go into the table.
 pub(crate) fn unpack<A: Access>(
     station: &mut Station,
     access: &A,
@@ -89,7 +89,7 @@ pub(crate) fn unpack<A: Access>(
     Ok(())
 }
 
-// Second step: height and period of the frame, each beside the number of its half hour.
+/// Second step: height and period of the frame, each beside the number of its half hour.
 pub(crate) fn fit<A: Access>(station: &mut Station, access: &A) -> Result<(), Fault> {
     let hour = access.load(station, FRAME)?;
     let mut bands = [0u64; 6];
@@ -107,7 +107,7 @@ pub(crate) fn fit<A: Access>(station: &mut Station, access: &A) -> Result<(), Fa
     store_reading(station, access, HEIGHT, PERIOD, Reading { height, period })
 }
 
-// Third step: 1 beside the half hour where both figures belong together and are plausible, else 0.
+/// Third step: 1 beside the half hour where both figures belong together and are plausible, else 0.
 pub(crate) fn check_quality<A: Access>(station: &mut Station, access: &A) -> Result<(), Fault> {
     let Reading { height, period } = load_reading(station, access, HEIGHT, PERIOD)?;
     let good = height.hour == period.hour
@@ -120,8 +120,8 @@ pub(crate) fn check_quality<A: Access>(station: &mut Station, access: &A) -> Res
     store_figure(station, access, QUALITY, verdict)
 }
 
-// Fourth step: reads both figures and writes the outgoing record. What comes between the two comes even if the height
-// was refused.
+/// Fourth step: reads both figures and writes the outgoing record. What comes between the two comes even if the height
+/// was refused.
 pub(crate) fn write_record<A: Access, F: FnOnce(&mut Station) + Drop>(
     station: &mut Station,
     access: &A,
@@ -138,12 +138,12 @@ pub(crate) fn write_record<A: Access, F: FnOnce(&mut Station) + Drop>(
     Ok(record)
 }
 
-// The outgoing record as it stands in the table.
+/// The outgoing record as it stands in the table.
 pub(crate) fn load_record<A: Access>(station: &mut Station, access: &A) -> Result<Reading, Fault> {
     load_reading(station, access, RECORD, RECORD + 2)
 }
 
-// The next half hour's figures, offered in one job; given up whole where a part is refused.
+/// The next half hour's figures, offered in one job; given up whole where a part is refused.
 pub(crate) fn offer(station: &mut Station, thread: u64, next: Reading) -> Result<(), Fault> {
     in_job(station, thread, |station, job| {
         store_reading(station, job, HEIGHT, PERIOD, next)

@@ -1,8 +1,8 @@
-// Held jobs: a begin that must be spent by a commit or an abort.
-//
-// A held job is linear: its type has no `Drop`, so a program that lets one go without ending it does not compile, and
-// neither does one that uses it after its end. It holds its thread's number and nothing else; the store is lent to each
-// call, so that several jobs can be held at once and calls by thread number may go between.
+//! Held jobs: a begin that must be spent by a commit or an abort.
+//!
+//! A held job is linear: its type has no `Drop`, so a program that lets one go without ending it does not compile, and
+//! neither does one that uses it after its end. It holds its thread's number and nothing else; the store is lent to each
+//! call, so that several jobs can be held at once and calls by thread number may go between.
 #![tactic(auto)]
 
 ghost use Rattle.std.specs.Prelude.{◌≡◌};
@@ -22,7 +22,7 @@ pub struct HeldJob {
 }
 
 impl HeldJob {
-    // Begins a job on an idle thread, and holds it.
+    /// Begins a job on an idle thread, and holds it.
     pub fn begin<M: Memory, B: Book>(store: &mut Store<M, B>, thread: u64) -> Result<HeldJob, Fault>
         ensures answer { result ≡ begun_as thread (begin_answer (state_of M.Memory.words B.Book.holding store.old) thread) }
         ensures leaves { Leaves M.Memory.words M.Memory.beyond B.Book.holding B.Book.moves store.old (BeginCall thread) (done_of (begin_answer (state_of M.Memory.words B.Book.holding store.old) thread)) store.new }
@@ -33,14 +33,14 @@ impl HeldJob {
         Ok(HeldJob { thread })
     }
 
-    // The thread whose job is held.
+    /// The thread whose job is held.
     pub fn thread(&self) -> u64
         ensures { result ≡ self.now.thread }
     {
         self.thread
     }
 
-    // As a load by thread number.
+    /// As a load by thread number.
     pub fn load<M: Memory, B: Book>(
         &self,
         store: &mut Store<M, B>,
@@ -53,7 +53,7 @@ impl HeldJob {
         store.load(self.thread, address)
     }
 
-    // As a store by thread number.
+    /// As a store by thread number.
     pub fn store<M: Memory, B: Book>(
         &self,
         store: &mut Store<M, B>,
@@ -67,7 +67,7 @@ impl HeldJob {
         store.store(self.thread, address, word)
     }
 
-    // Spends the held job by a commit, also where the store refuses it because the thread is idle by then.
+    /// Spends the held job by a commit, also where the store refuses it because the thread is idle by then.
     pub fn commit<M: Memory, B: Book>(self, store: &mut Store<M, B>) -> Result<(u64, u64), Fault>
         ensures answer { Answered (state_of M.Memory.words B.Book.holding store.old) (CommitCall self.thread) (ended_of result) }
         ensures leaves { Leaves M.Memory.words M.Memory.beyond B.Book.holding B.Book.moves store.old (CommitCall self.thread) (ended_of result) store.new }
@@ -77,7 +77,7 @@ impl HeldJob {
         store.commit(thread)
     }
 
-    // Spends the held job by an abort, also where the store refuses it because the thread is idle by then.
+    /// Spends the held job by an abort, also where the store refuses it because the thread is idle by then.
     pub fn abort<M: Memory, B: Book>(self, store: &mut Store<M, B>) -> Result<(u64, u64), Fault>
         ensures answer { Answered (state_of M.Memory.words B.Book.holding store.old) (AbortCall self.thread) (ended_of result) }
         ensures leaves { Leaves M.Memory.words M.Memory.beyond B.Book.holding B.Book.moves store.old (AbortCall self.thread) (ended_of result) store.new }

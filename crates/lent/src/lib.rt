@@ -1,4 +1,4 @@
-// The store over what a caller lends: a script and its report, or calls as numbers and a table of bytes.
+//! The store over what a caller lends: a script and its report, or calls as numbers and a table of bytes.
 #![tactic(auto)]
 
 ghost use Rattle.std.specs.Prelude.{◌≡◌};
@@ -17,7 +17,7 @@ use std::alloc::{AllocError, Global};
 
 const TABLE_WORDS: usize = 512;
 
-// Runs a script on a fresh store over 512 zero words.
+/// Runs a script on a fresh store over 512 zero words.
 pub fn run<B: Marked + Drop>(
     alloc: Global,
     book: B,

@@ -1,11 +1,11 @@
-// Calls and answers as numbers, four for each.
+//! Calls and answers as numbers, four for each.
 ghost use Rattle.std.specs.Prelude.{◌≡◌};
 ghost use Rattle.lent.specs.Numbers.{call_of, numbers_of};
 
 use fault::Fault;
 use store::{Answer, Call};
 
-// The call of the script's letter and up to three fields in the script's order.
+/// The call of the script's letter and up to three fields in the script's order.
 pub fn call_of(numbers: [u64; 4]) -> Option<Call>
     ensures { result ≡ call_of numbers }
 {
@@ -22,7 +22,7 @@ pub fn call_of(numbers: [u64; 4]) -> Option<Call>
     }
 }
 
-// Granted: 0, how many values, the values. Refused: the layer's letter, the refusal's number, what it carries.
+/// Granted: 0, how many values, the values. Refused: the layer's letter, the refusal's number, what it carries.
 pub fn numbers_of(answer: Result<Answer, Fault>) -> [u64; 4]
     ensures { result ≡ numbers_of answer }
 {

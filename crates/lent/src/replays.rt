@@ -1,4 +1,4 @@
-// Calls as numbers, made on a fresh store over a table of bytes.
+//! Calls as numbers, made on a fresh store over a table of bytes.
 ghost use Rattle.std.specs.Prelude.{◌≡◌};
 ghost use Rattle.std.specs.Result.{IfOk, OnErr};
 ghost use Rattle.lent.specs.Promises.{MadeReplayed, MadeMarked};
@@ -9,11 +9,11 @@ use memory::Image;
 use std::alloc::{AllocError, Global};
 use store::Store;
 
-// The bytes of the most blocks that a memory has.
+/// The bytes of the most blocks that a memory has.
 const IMAGE_BYTES: usize = 4096;
 
-// Makes the calls on a fresh store over the bytes of a table. A call is four numbers, and so is its answer. Made are
-// the whole groups of four that have room for their answers, up to the first that is no call: the number of these is the result.
+/// Makes the calls on a fresh store over the bytes of a table. A call is four numbers, and so is its answer. Made are
+/// the whole groups of four that have room for their answers, up to the first that is no call: the number of these is the result.
 pub fn replay<B: Book + Drop>(
     alloc: Global,
     book: B,
@@ -47,7 +47,7 @@ pub fn replay<B: Book + Drop>(
     Ok(made)
 }
 
-// The same over a book with marks.
+/// The same over a book with marks.
 pub fn replay_marked<B: Marked + Drop>(
     alloc: Global,
     book: B,

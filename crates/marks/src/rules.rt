@@ -1,4 +1,4 @@
-// The rules of marks: fission and fusion, the debit, the code.
+//! The rules of marks: fission and fusion, the debit, the code.
 ghost use Rattle.std.specs.Prelude.{◌≡◌, IfOk};
 ghost use Rattle.fault.specs.declared.Layer.TheVariants.{Marks};
 ghost use Rattle.fault.specs.declared.Refusal.TheVariants.{MarksApart};
@@ -10,16 +10,16 @@ ghost use Rattle.marks.specs.declared.states.Metastate.TheVariants.{Anonymous};
 use crate::{Debit, Mark, Metastate};
 use fault::{Fault, Layer, Refusal};
 
-// The code where a board has no copy of a block.
+/// The code where a board has no copy of a block.
 pub const NO_COPY: u64 = 65535;
 
-// The tokens of a block, all of which a writer takes.
+/// The tokens of a block, all of which a writer takes.
 pub const TOKENS: u64 = 64;
 
 const THREADS: u64 = 16;
 
 impl Mark {
-    // The mark of a block that no token was taken from: (0, –).
+    /// The mark of a block that no token was taken from: (0, –).
     pub fn untouched() -> Self
         ensures { result.state ≡ Anonymous 0 }
     {
@@ -28,7 +28,7 @@ impl Mark {
         }
     }
 
-    // The mark with this metastate, unless its count is above 63 or its thread above 15.
+    /// The mark with this metastate, unless its count is above 63 or its thread above 15.
     pub fn new(state: Metastate) -> Option<Self>
         ensures { state_in result ≡ mark_of state }
     {
@@ -47,7 +47,7 @@ impl Mark {
         self.state
     }
 
-    // What the mark shows as taken.
+    /// What the mark shows as taken.
     pub fn debit(self) -> Debit
         ensures { result.tokens ≡ debit_of self.state }
     {
@@ -58,7 +58,7 @@ impl Mark {
         }
     }
 
-    // The mark's code, a single number.
+    /// The mark's code, a single number.
     pub fn code(self) -> u64
         ensures { result ≡ code_of self.state }
     {
@@ -69,8 +69,8 @@ impl Mark {
         }
     }
 
-    // Fission: the mark that stays and the mark of a new copy. Every copy must show a writer;
-    // readers are shown once.
+    /// Fission: the mark that stays and the mark of a new copy. Every copy must show a writer;
+    /// readers are shown once.
     pub fn split(self) -> (Mark, Mark)
         ensures value { states_in result ≡ split_of self.state }
         ensures conserves { shown_by result.0.state result.1.state ≡ debit_of self.state }
@@ -81,7 +81,7 @@ impl Mark {
         }
     }
 
-    // Fusion: the one mark that stands for two copies.
+    /// Fusion: the one mark that stands for two copies.
     pub fn fuse(self, other: Mark) -> Result<Mark, Fault>
         ensures value { fused_in result ≡ fuse_of self.state other.state }
         ensures conserves { IfOk result (λ m. debit_of m.state ≡ shown_by self.state other.state) }
@@ -97,21 +97,21 @@ impl Mark {
     }
 }
 
-// The code of a board's copy, or of none.
+/// The code of a board's copy, or of none.
 pub fn copy_code(copy: Option<Mark>) -> u64
     ensures { result ≡ copy_code_of (state_in copy) }
 {
     copy.map_or(NO_COPY, Mark::code)
 }
 
-// Two marks that cannot stand for one block together.
+/// Two marks that cannot stand for one block together.
 fn apart(sum: u64) -> Fault
     ensures { result ≡ record { layer = Marks; refusal = MarksApart sum } }
 {
     Layer::Marks.refuses(Refusal::MarksApart(sum))
 }
 
-// Readers of two copies, counted together.
+/// Readers of two copies, counted together.
 fn readers(sum: u64) -> Result<Mark, Fault>
     ensures { fused_in result ≡ readers_of sum }
 {

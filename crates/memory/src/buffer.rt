@@ -1,4 +1,4 @@
-// Buffer: a memory over a buffer of items, each a word or a byte of a word.
+//! Buffer: a memory over a buffer of items, each a word or a byte of a word.
 ghost use Rattle.std.specs.Prelude.{◌≡◌, ℕ, ◌*◌, ◌^◌, ◌<◌, ◌≤◌, List, length, slice_index, slice_set};
 ghost use Rattle.memory.specs.Words.{write_answer, whole_blocks};
 ghost use Rattle.memory.specs.Fronts.{whole_counted};
@@ -6,10 +6,10 @@ ghost use Rattle.memory.specs.Fronts.{whole_counted};
 use super::Memory;
 use fault::Fault;
 
-// An item of a buffer, and how words lie in a buffer of such items: the whole blocks at its front, at most 64, are the
-// memory's words. Not exported, since its functions ask for an address within the words: memories alone call them.
+/// An item of a buffer, and how words lie in a buffer of such items: the whole blocks at its front, at most 64, are the
+/// memory's words. Not exported, since its functions ask for an address within the words: memories alone call them.
 pub trait Item: Copy {
-    // how many items a block has
+    /// how many items a block has
     const PER_BLOCK: usize;
 
     ghost PER_BLOCK: { ℕ };
@@ -23,12 +23,12 @@ pub trait Item: Copy {
     // the buffer after a write of a word to an address
     ghost after: { List Self → ℕ → ℕ → List Self };
 
-    // The word at an address.
+    /// The word at an address.
     fn word_at(buffer: &[Self], address: usize) -> u64
         requires { address < length (words buffer.now) }
         ensures { result ≡ slice_index (words buffer.now) address };
 
-    // Replaces the word at an address.
+    /// Replaces the word at an address.
     fn put_word(buffer: &mut [Self], address: usize, word: u64)
         requires { address < length (words buffer.old) }
         ensures { buffer.new ≡ after buffer.old address word };
@@ -47,7 +47,7 @@ pub trait Item: Copy {
     ghost after_past: { (buffer : List Self) (a w : ℕ) → length (words buffer) ≤ a → after buffer a w ≡ buffer };
 }
 
-// The items behind the whole blocks are never touched.
+/// The items behind the whole blocks are never touched.
 #[derive(Drop)]
 pub struct Buffer<T> {
     buffer: Vec<T>,
@@ -60,14 +60,14 @@ impl<T: Item> Buffer<T> {
         Buffer { buffer }
     }
 
-    // The whole buffer, with what lies behind the blocks.
+    /// The whole buffer, with what lies behind the blocks.
     pub fn buffer(&self) -> &[T]
         ensures { result.now ≡ self.now.buffer.items }
     {
         &self.buffer
     }
 
-    // The buffer, given back.
+    /// The buffer, given back.
     pub fn into_buffer(self) -> Vec<T>
         ensures { result ≡ self.buffer }
     {
@@ -91,7 +91,7 @@ impl<T: Item> Memory for Buffer<T> {
         Ok(T::word_at(&self.buffer, address as usize))
     }
 
-    // The trait's clauses stand again, since an impl that adds one (items) names them all.
+    /// The trait's clauses stand again, since an impl that adds one (items) names them all.
     fn write(&mut self, address: u64, word: u64) -> Result<(), Fault>
         ensures answer { result ≡ write_answer (T.words self.old.buffer.items) address }
         ensures after { T.words self.new.buffer.items ≡ slice_set (T.words self.old.buffer.items) address word }

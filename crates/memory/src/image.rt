@@ -1,4 +1,4 @@
-// Byte image: each item of the buffer is a byte, and each word stands in eight of them, the most significant first.
+//! Byte image: each item of the buffer is a byte, and each word stands in eight of them, the most significant first.
 ghost use Rattle.std.proofs.Common.{lit<};
 ghost use Rattle.memory.specs.Buffers.{image_words, image_beyond, image_after};
 ghost use Rattle.memory.specs.Images.{length-image, image_words-after, image_beyond-after, image_after-past};

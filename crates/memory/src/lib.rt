@@ -1,4 +1,4 @@
-// The memory under a store: a table of 64-bit words in blocks of eight.
+//! The memory under a store: a table of 64-bit words in blocks of eight.
 #![tactic(auto)]
 
 mod buffer;
@@ -15,7 +15,7 @@ pub use image::Image;
 pub use plain::Plain;
 pub use window::Window;
 
-// A memory means a list of words, in whole blocks of eight and at most 64 blocks, whose length never changes.
+/// A memory means a list of words, in whole blocks of eight and at most 64 blocks, whose length never changes.
 pub trait Memory {
     // the words, by address
     ghost words: { Self → List ℕ };
@@ -23,16 +23,16 @@ pub trait Memory {
     // what lies in the same buffers and is no word of this memory: no call may touch it
     ghost beyond: { Self → List (List ℕ) };
 
-    // The number of blocks.
+    /// The number of blocks.
     fn size(&self) -> u64
         ensures limit { result ≤ 64 }
         ensures answer { 8 * result ≡ length (words self.now) };
 
-    // The word at an address.
+    /// The word at an address.
     fn read(&self, address: u64) -> Result<u64, Fault>
         ensures answer { result ≡ read_answer (words self.now) address };
 
-    // Replaces the word at an address.
+    /// Replaces the word at an address.
     fn write(&mut self, address: u64, word: u64) -> Result<(), Fault>
         ensures answer { result ≡ write_answer (words self.old) address }
         ensures after { words self.new ≡ slice_set (words self.old) address word }
@@ -42,7 +42,7 @@ pub trait Memory {
     ghost whole: { (m : Self) → Whole (words m) };
 }
 
-// Refuses an address past the words of so many blocks.
+/// Refuses an address past the words of so many blocks.
 fn check(address: u64, blocks: u64) -> Result<(), Fault>
     ensures { result ≡ cond (nat_lt address (8 * blocks)) (Ok tt) (Err (address_fault address)) }
 {

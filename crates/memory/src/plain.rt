@@ -1,4 +1,4 @@
-// Plain words: each item of the buffer is a word.
+//! Plain words: each item of the buffer is a word.
 ghost use Rattle.std.proofs.Common.{lit<};
 ghost use Rattle.memory.specs.Buffers.{plain_words, plain_beyond, plain_after};
 ghost use Rattle.memory.specs.Fronts.{length-plain, plain_words-after, plain_beyond-after, plain_after-past};

@@ -1,4 +1,4 @@
-// Window: some consecutive blocks of the memory below it, as a memory of their own.
+//! Window: some consecutive blocks of the memory below it, as a memory of their own.
 ghost use Rattle.std.specs.Prelude.{◌≡◌, ◌≤◌, ◌++◌};
 ghost use Rattle.memory.specs.Words.{Whole};
 ghost use Rattle.memory.specs.Windows.{start_of, window_words, window_beyond};
@@ -7,8 +7,8 @@ ghost use Rattle.memory.specs.WindowsLemmas.{whole_window};
 use super::Memory;
 use fault::Fault;
 
-// Begins at the smaller of `first` and the size below, and has the smaller of `count` and what remains from there.
-// Both are kept as given: the window is cut to the memory below at each call.
+/// Begins at the smaller of `first` and the size below, and has the smaller of `count` and what remains from there.
+/// Both are kept as given: the window is cut to the memory below at each call.
 #[derive(Drop)]
 pub struct Window<M> {
     below: M,
@@ -29,7 +29,7 @@ impl<M: Memory> Window<M> {
         }
     }
 
-    // The memory below, given back.
+    /// The memory below, given back.
     pub fn into_below(self) -> M
         ensures { result ≡ self.below }
     {
@@ -37,7 +37,7 @@ impl<M: Memory> Window<M> {
         below
     }
 
-    // The first block of the memory below that the window shows, with the law of that memory for the callers' proofs.
+    /// The first block of the memory below that the window shows, with the law of that memory for the callers' proofs.
     fn start(&self) -> u64
         ensures answer { result ≡ start_of (M.Memory.words self.now.below) self.now.first }
         ensures limit { result ≤ 64 }

@@ -1,4 +1,4 @@
-// What a log can do.
+//! What a log can do.
 ghost use Rattle.std.specs.Prelude.{◌≡◌, ◌≤◌, [], length};
 ghost use Rattle.record_log.specs.Latest.{latest_of};
 ghost use Rattle.record_log.specs.Records.{records_of, pushed, push_answer};
@@ -6,7 +6,7 @@ ghost use Rattle.record_log.specs.Records.{records_of, pushed, push_answer};
 use crate::{Full, Keyed, Log, latest};
 
 impl<R: Keyed + Copy, const N: usize> Log<R, N> {
-    // An empty log. The filler is never among its records.
+    /// An empty log. The filler is never among its records.
     pub fn new(filler: R) -> Self
         ensures { records_of result ≡ [] }
     {
@@ -16,7 +16,7 @@ impl<R: Keyed + Copy, const N: usize> Log<R, N> {
         }
     }
 
-    // The records, oldest first.
+    /// The records, oldest first.
     pub fn records(&self) -> &[R]
         ensures value { result.now ≡ records_of self.now }
         ensures fits { length result.now ≤ N }
@@ -24,7 +24,7 @@ impl<R: Keyed + Copy, const N: usize> Log<R, N> {
         &self.items[..self.count]
     }
 
-    // How many records there are.
+    /// How many records there are.
     pub fn count(&self) -> u64
         ensures value { result ≡ length (records_of self.now) }
         ensures fits { result ≤ N }
@@ -32,14 +32,14 @@ impl<R: Keyed + Copy, const N: usize> Log<R, N> {
         self.count as u64
     }
 
-    // The latest record with the key.
+    /// The latest record with the key.
     pub fn latest(&self, key: u64) -> Option<R>
         ensures { result ≡ latest_of R.Keyed.keyed key (records_of self.now) }
     {
         latest(self.records(), key)
     }
 
-    // Adds a record at the end. A full log says so and keeps its records.
+    /// Adds a record at the end. A full log says so and keeps its records.
     pub fn push(&mut self, added: R) -> Result<(), Full>
         ensures answer { result ≡ push_answer N (records_of self.old) }
         ensures after { records_of self.new ≡ pushed N (records_of self.old) added }
@@ -52,7 +52,7 @@ impl<R: Keyed + Copy, const N: usize> Log<R, N> {
         Ok(())
     }
 
-    // Drops all records.
+    /// Drops all records.
     pub fn clear(&mut self)
         ensures { records_of self.new ≡ [] }
     {

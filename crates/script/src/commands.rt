@@ -1,4 +1,4 @@
-// Commands: the call that a line asks for, or why it asks for none.
+//! Commands: the call that a line asks for, or why it asks for none.
 ghost use Rattle.std.specs.Prelude.{◌≡◌, ◌<◌};
 ghost use Rattle.std.specs.Option.{ok_or};
 ghost use Rattle.fault.specs.declared.Refusal.TheVariants.{UnknownCommand};
@@ -6,11 +6,11 @@ ghost use Rattle.script.specs.Commands.{call_of, command_of, commanded, fields_f
 ghost use Rattle.script.specs.Pieces.{fields_of};
 
 use super::decimal::number;
-use super::words::{count_fields, word_at};
+use super::words::{Word, count_fields, word_at};
 use fault::{Fault, Layer, Refusal};
 use store::Call;
 
-// What a command letter stands for.
+/// What a command letter stands for.
 #[derive(Clone, Copy)]
 pub(crate) enum Command {
     Begin,
@@ -42,7 +42,7 @@ impl TryFrom<char> for Command {
 }
 
 impl Command {
-    // Whether a line with so many fields, the letter included, fits the command.
+    /// Whether a line with so many fields, the letter included, fits the command.
     fn takes(self, fields: u64) -> bool
         ensures { result ≡ fields_fit self fields }
     {
@@ -54,7 +54,7 @@ impl Command {
     }
 }
 
-// The call of a line, or its refusal: an unknown command, a wrong number of fields, the first field that is no number.
+/// The call of a line, or its refusal: an unknown command, a wrong number of fields, the first field that is no number.
 pub fn parse(line: &[u8]) -> Result<Call, Fault>
     ensures { result ≡ parse_of line.now }
 {
@@ -65,7 +65,7 @@ pub fn parse(line: &[u8]) -> Result<Call, Fault>
     }
 }
 
-// The call of a command letter, on a line in which so many fields were found.
+/// The call of a command letter, on a line in which so many fields were found.
 fn call_named(letter: char, line: &[u8], found: u64) -> Result<Call, Fault>
     ensures { result ≡ commanded (command_of letter) found (fields_of line.now) }
 {
@@ -73,11 +73,11 @@ fn call_named(letter: char, line: &[u8], found: u64) -> Result<Call, Fault>
     if !command.takes(found) {
         return Err(Layer::Text.refuses(Refusal::WrongFieldCount(found)));
     }
-    numbers_of(command, line)
+    call_of(command, line)
 }
 
-// The call of a command, with the numbers in the fields behind its letter.
-fn numbers_of(command: Command, line: &[u8]) -> Result<Call, Fault>
+/// The call of a command, with the numbers in the fields behind its letter.
+fn call_of(command: Command, line: &[u8]) -> Result<Call, Fault>
     ensures { result ≡ call_of command (fields_of line.now) }
 {
     match command {
@@ -95,16 +95,16 @@ fn numbers_of(command: Command, line: &[u8]) -> Result<Call, Fault>
     }
 }
 
-// The number in the field at a position.
+/// The number in the field at a position behind the letter's.
 fn number_at(line: &[u8], position: u64) -> Result<u64, Fault>
-    requires { 0 < position }
+    requires { 1 < position }
     ensures { result ≡ number_at (fields_of line.now) position }
 {
-    let Some(word) = word_at(line, position) else {
+    let Some(Word::Number(bytes, place)) = word_at(line, position) else {
         return Err(Layer::Text.refuses(Refusal::NotANumber(position)));
     };
-    let Some(n) = number(word.bytes()) else {
-        return Err(Layer::Text.refuses(Refusal::NotANumber(word.position())));
+    let Some(n) = number(bytes) else {
+        return Err(Layer::Text.refuses(Refusal::NotANumber(place)));
     };
     Ok(n)
 }

@@ -1,4 +1,4 @@
-// Decimal numbers: reading a field, and writing into a report.
+//! Decimal numbers: reading a field, and writing into a report.
 ghost use Rattle.std.specs.Prelude.{◌≡◌, take, IfSome, Some, decimal};
 ghost use Rattle.script.specs.Numerals.{Reads, number_in, opened, pushed};
 ghost use Rattle.script.specs.Writing.{fronted, fronts};
@@ -6,7 +6,7 @@ ghost use Rattle.script.specs.Writing.{fronted, fronts};
 use super::writing::put_text;
 use itoa::Buffer;
 
-// The number that a field writes in decimal, below 2^64 and with no leading zero.
+/// The number that a field writes in decimal, below 2^64 and with no leading zero.
 pub fn number(field: &[u8]) -> Option<u64>
     ensures answer { result ≡ number_in field.now }
     ensures writing { Reads field.now result }
@@ -19,7 +19,7 @@ pub fn number(field: &[u8]) -> Option<u64>
         .try_fold(0u64, |sum, byte| push_digit(sum, *byte))
 }
 
-// Not empty, and no leading zero but for 0 itself.
+/// Not empty, and no leading zero but for 0 itself.
 fn opens_number(field: &[u8]) -> bool
     ensures { result ≡ opened field.now }
 {
@@ -30,7 +30,7 @@ fn opens_number(field: &[u8]) -> bool
     }
 }
 
-// The number that one more digit behind `sum` writes.
+/// The number that one more digit behind `sum` writes.
 fn push_digit(sum: u64, byte: u8) -> Option<u64>
     ensures { result ≡ pushed sum byte }
 {
@@ -40,8 +40,8 @@ fn push_digit(sum: u64, byte: u8) -> Option<u64>
     }
 }
 
-// Writes the number at the front of the buffer and answers how many bytes that took.
-// Where there is no room, nothing is written.
+/// Writes the number at the front of the buffer and answers how many bytes that took.
+/// Where there is no room, nothing is written.
 pub fn put_number(out: &mut [u8], n: u64) -> Option<usize>
     ensures answer { result ≡ fronts out.old (decimal n) }
     ensures written { out.new ≡ fronted out.old (decimal n) }

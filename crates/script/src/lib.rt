@@ -1,5 +1,5 @@
-// The text of the station's script: numbers, lines, fields, commands and the rows of a report.
-// It knows the store's calls and answers, and no store.
+//! The text of the station's script: numbers, lines, fields, commands and the rows of a report.
+//! It knows the store's calls and answers, and no store.
 #![tactic(auto)]
 
 mod commands;

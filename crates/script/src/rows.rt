@@ -1,5 +1,5 @@
-// Rows of a report: what became of a line.
-// They are not printed by `Display`: `write!` says nothing of when a write fails, and a row has to fit.
+//! Rows of a report: what became of a line.
+//! They are not printed by `Display`: `write!` says nothing of when a write fails, and a row has to fit.
 ghost use Rattle.std.specs.Prelude.{◌≡◌, ◌+◌, ◌≤◌, [], ◌∷◌, ◌++◌, length, Some, Ok, decimal};
 ghost use Rattle.arrayvec.specs.ArrayString.{array_string_len};
 ghost use Rattle.script.specs.Rows.{Within, outcome_text, row_of};
@@ -11,12 +11,12 @@ use fault::Fault;
 use itoa::Buffer;
 use store::Answer;
 
-// The most bytes of a row: a number of 20 digits, " no ", a letter, two values behind a space each, byte 10.
+/// The most bytes of a row: a number of 20 digits, " no ", a letter, two values behind a space each, byte 10.
 const ROW_BYTES: usize = 20 + 5 + 2 * 21 + 1;
 
-// Writes the row of a line at the front of the buffer, and answers its length.
-// Where it does not fit, nothing is written.
-// `Within outcome` stays a premise of the bounds here and below: an outcome in range has no type of its own.
+/// Writes the row of a line at the front of the buffer, and answers its length.
+/// Where it does not fit, nothing is written.
+/// `Within outcome` stays a premise of the bounds here and below: an outcome in range has no type of its own.
 pub fn put_row(out: &mut [u8], line: u64, outcome: Result<Answer, Fault>) -> Option<usize>
     ensures answer { result ≡ fronts out.old (row_of line outcome) }
     ensures written { out.new ≡ fronted out.old (row_of line outcome) }
@@ -26,7 +26,7 @@ pub fn put_row(out: &mut [u8], line: u64, outcome: Result<Answer, Fault>) -> Opt
     put_text(out, &row_text(line, outcome))
 }
 
-// The row of a line.
+/// The row of a line.
 fn row_text(line: u64, outcome: Result<Answer, Fault>) -> ArrayString<ROW_BYTES>
     ensures text { result.bytes ≡ row_of line outcome }
     ensures short { Within outcome → length result.bytes ≤ 64 }
@@ -38,8 +38,8 @@ fn row_text(line: u64, outcome: Result<Answer, Fault>) -> ArrayString<ROW_BYTES>
     row
 }
 
-// Adds what became of a line: " ok" and the values of the answer, or " no", the layer's letter, the refusal's number and its place.
-// One text grows through all, hence the requires: with a text for each outcome and value the station takes an eighth more instructions (tried).
+/// Adds what became of a line: " ok" and the values of the answer, or " no", the layer's letter, the refusal's number and its place.
+/// One text grows through all, hence the requires: with a text for each outcome and value the station takes an eighth more instructions (tried).
 fn add_outcome(row: &mut ArrayString<ROW_BYTES>, outcome: Result<Answer, Fault>)
     requires { array_string_len row.old ≤ 20 }
     ensures text { row.new.bytes ≡ row.old.bytes ++ outcome_text outcome }
@@ -67,7 +67,7 @@ fn add_outcome(row: &mut ArrayString<ROW_BYTES>, outcome: Result<Answer, Fault>)
     }
 }
 
-// Adds a value behind a space.
+/// Adds a value behind a space.
 #[inline]
 fn add_value(row: &mut ArrayString<ROW_BYTES>, value: u64)
     requires { array_string_len row.old ≤ 47 }

@@ -1,9 +1,9 @@
-// A text at the front of a buffer.
+//! A text at the front of a buffer.
 ghost use Rattle.std.specs.Prelude.{◌≡◌};
 ghost use Rattle.script.specs.Writing.{fronted, fronts};
 
-// Writes the text at the front of the buffer, and answers how many bytes that took.
-// Where there is no room, nothing is written.
+/// Writes the text at the front of the buffer, and answers how many bytes that took.
+/// Where there is no room, nothing is written.
 pub(crate) fn put_text(out: &mut [u8], text: &str) -> Option<usize>
     ensures answer { result ≡ fronts out.old text.now }
     ensures written { out.new ≡ fronted out.old text.now }

@@ -1,4 +1,4 @@
-// The station: runs a script from standard input on the board book over 512 zero words, and prints its report.
+//! The station: runs a script from standard input on the board book over 512 zero words, and prints its report.
 #![tactic(auto)]
 
 use board::BoardBook;
@@ -7,7 +7,7 @@ use memory::Plain;
 use std::io;
 use std::io::{Read, Write};
 
-// the most bytes of a script that are read, the bytes of the report, the words of the table
+/// the most bytes of a script that are read, the bytes of the report, the words of the table
 const SCRIPT_BYTES: u64 = 32768;
 
 const REPORT_BYTES: usize = 65536;

@@ -1,4 +1,4 @@
-// The calls. Each tells what is answered at one moment, what is left, and what this means for every history.
+//! The calls. Each tells what is answered at one moment, what is left, and what this means for every history.
 ghost use Rattle.std.specs.Prelude.{◌≡◌, ◌<◌, Ok, slice_set};
 ghost use Rattle.store.specs.States.{state_of, begin_answer, load_answer, store_answer, put_back, Answered, EndAnswer, seat_answer, drop_answer, done_of, word_of, ended_of};
 ghost use Rattle.store.specs.Moved.{Leaves, MovedBy, end_move};
@@ -14,9 +14,9 @@ use fault::Fault;
 use memory::Memory;
 use threads::{Request, Undo, check_thread};
 
-// A clause hands over the members and not the bounds, so that it shows what it speaks of: a state is words and holdings, whatever else the two promise.
+// A clause hands over the members and not the bounds, so that it shows what it speaks of: a state is words, holdings and the thread table, whatever else memory and book promise.
 impl<M: Memory, B: Book> Store<M, B> {
-    // Opens a job on an idle thread.
+    /// Opens a job on an idle thread.
     pub fn begin(&mut self, thread: u64) -> Result<(), Fault>
         ensures answer { result ≡ begin_answer (state_of M.Memory.words B.Book.holding self.old) thread }
         ensures leaves { Leaves M.Memory.words M.Memory.beyond B.Book.holding B.Book.moves self.old (BeginCall thread) (done_of result) self.new }
@@ -27,7 +27,7 @@ impl<M: Memory, B: Book> Store<M, B> {
         Ok(())
     }
 
-    // The word at an address, for the thread's open job.
+    /// The word at an address, for the thread's open job.
     pub fn load(&mut self, thread: u64, address: u64) -> Result<u64, Fault>
         ensures answer { result ≡ load_answer (state_of M.Memory.words B.Book.holding self.old) thread address }
         ensures leaves { Leaves M.Memory.words M.Memory.beyond B.Book.holding B.Book.moves self.old (LoadCall thread address) (word_of result) self.new }
@@ -39,7 +39,7 @@ impl<M: Memory, B: Book> Store<M, B> {
         Ok(word)
     }
 
-    // Stores a word in place, for the thread's open job.
+    /// Stores a word in place, for the thread's open job.
     pub fn store(&mut self, thread: u64, address: u64, word: u64) -> Result<(), Fault>
         ensures answer { result ≡ store_answer (state_of M.Memory.words B.Book.holding self.old) thread address }
         ensures leaves { Leaves M.Memory.words M.Memory.beyond B.Book.holding B.Book.moves self.old (StoreCall thread address word) (done_of result) self.new }
@@ -53,7 +53,7 @@ impl<M: Memory, B: Book> Store<M, B> {
         self.memory.write(address, word)
     }
 
-    // Releases the thread's tokens and closes its entry: records dropped, and the book's figure.
+    /// Releases the thread's tokens and closes its entry: records dropped, and the book's figure.
     fn end(&mut self, thread: u64) -> Result<(u64, u64), Fault>
         requires { thread < 16 }
         ensures answer { EndAnswer (state_of M.Memory.words B.Book.holding self.old) thread (Ok tt) (ended_of result) }
@@ -67,8 +67,8 @@ impl<M: Memory, B: Book> Store<M, B> {
         Ok((records, figure))
     }
 
-    // Ends the thread's job for good: records dropped, and the book's figure.
-    // A pair, since a type of its own would only name the two counts again.
+    /// Ends the thread's job for good: records dropped, and the book's figure.
+    /// A pair, since a type of its own would only name the two counts again.
     pub fn commit(&mut self, thread: u64) -> Result<(u64, u64), Fault>
         ensures answer { Answered (state_of M.Memory.words B.Book.holding self.old) (CommitCall thread) (ended_of result) }
         ensures leaves { Leaves M.Memory.words M.Memory.beyond B.Book.holding B.Book.moves self.old (CommitCall thread) (ended_of result) self.new }
@@ -78,7 +78,7 @@ impl<M: Memory, B: Book> Store<M, B> {
         self.end(thread)
     }
 
-    // Puts back what the thread's job stored, and ends it: records dropped, and the book's figure.
+    /// Puts back what the thread's job stored, and ends it: records dropped, and the book's figure.
     pub fn abort(&mut self, thread: u64) -> Result<(u64, u64), Fault>
         ensures answer { Answered (state_of M.Memory.words B.Book.holding self.old) (AbortCall thread) (ended_of result) }
         ensures leaves { Leaves M.Memory.words M.Memory.beyond B.Book.holding B.Book.moves self.old (AbortCall thread) (ended_of result) self.new }
@@ -89,7 +89,7 @@ impl<M: Memory, B: Book> Store<M, B> {
         self.end(thread)
     }
 
-    // Seats a thread on a board. Belongs to no job.
+    /// Seats a thread on a board. Belongs to no job.
     pub fn seat(&mut self, thread: u64, board: u64) -> Result<(), Fault>
         ensures answer { result ≡ seat_answer thread board }
         ensures leaves { Leaves M.Memory.words M.Memory.beyond B.Book.holding B.Book.moves self.old (SeatCall thread board) (done_of result) self.new }
@@ -99,7 +99,7 @@ impl<M: Memory, B: Book> Store<M, B> {
         self.book.seat(thread, board)
     }
 
-    // Has a board give up its copy of a block's mark. Belongs to no job.
+    /// Has a board give up its copy of a block's mark. Belongs to no job.
     pub fn drop_copy(&mut self, board: u64, block: u64) -> Result<(), Fault>
         ensures answer { result ≡ drop_answer board block }
         ensures leaves { Leaves M.Memory.words M.Memory.beyond B.Book.holding B.Book.moves self.old (DropCall board block) (done_of result) self.new }
@@ -108,7 +108,7 @@ impl<M: Memory, B: Book> Store<M, B> {
         self.book.drop_copy(board, block)
     }
 
-    // Any of the calls.
+    /// Any of the calls.
     pub fn call(&mut self, call: Call) -> Result<Answer, Fault>
         ensures answer { Answered (state_of M.Memory.words B.Book.holding self.old) call result }
         ensures leaves { Leaves M.Memory.words M.Memory.beyond B.Book.holding B.Book.moves self.old call result self.new }
@@ -132,7 +132,7 @@ impl<M: Memory, B: Book> Store<M, B> {
     }
 }
 
-// Writes the old words back, the last record first. An address past the memory's end is refused there, and has no word to put back.
+/// Writes the old words back, the last record first. An address past the memory's end is refused there, and has no word to put back.
 #[tactic(auto, unfolding(crate::specs::States::put_back))]
 fn put_back<M: Memory>(memory: &mut M, undo: &[Undo])
     ensures after { M.Memory.words memory.new ≡ put_back (M.Memory.words memory.old) undo.now }

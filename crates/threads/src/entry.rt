@@ -1,4 +1,4 @@
-// One entry of the thread table. It does not know its thread's number: whoever asks tells it.
+//! One entry of the thread table. It does not know its thread's number: whoever asks tells it.
 ghost use Rattle.std.specs.Prelude.{◌≡◌, [], length};
 ghost use Rattle.threads.specs.Entries.{open_in, entry_of, idle, begun, noted_in, logged_in};
 ghost use Rattle.threads.specs.Judgement.{judged, room_in};
@@ -7,18 +7,18 @@ use crate::Undo;
 use fault::{Fault, Layer, Refusal};
 use record_log::Log;
 
-// The most records that an undo log holds.
+/// The most records that an undo log holds.
 pub(crate) const UNDO_LIMIT: usize = 64;
 
 #[derive(Clone, Copy, PartialEq, Eq, Debug)]
 pub(crate) enum State {
-    // no job
+    /// no job
     Idle,
-    // a job was begun and has not ended
+    /// a job was begun and has not ended
     Open,
 }
 
-// What can be asked of a thread.
+/// What can be asked of a thread.
 #[derive(Clone, Copy, PartialEq, Eq, Debug)]
 pub enum Request {
     Begin,
@@ -28,7 +28,7 @@ pub enum Request {
     Abort,
 }
 
-// The state stands beside the log, not around it: Table::note promises a record on an idle thread too.
+/// The state stands beside the log, not around it: Table::note promises a record on an idle thread too.
 #[derive(Clone, Copy)]
 pub(crate) struct Entry {
     state: State,
@@ -46,7 +46,7 @@ impl Entry {
         }
     }
 
-    // The given state, and an empty log.
+    /// The given state, and an empty log.
     fn reset(&mut self, state: State)
         ensures { entry_of self.new ≡ record { is_open = open_in state; undo = [] } }
     {
@@ -54,7 +54,7 @@ impl Entry {
         self.undo.clear();
     }
 
-    // Whether the thread's state allows the request: the two are matched together.
+    /// Whether the thread's state allows the request: the two are matched together.
     pub(crate) fn judge(&self, thread: u64, request: Request) -> Result<(), Fault>
         ensures { result ≡ judged thread (entry_of self.now) request }
     {
@@ -66,14 +66,14 @@ impl Entry {
         }
     }
 
-    // Whether the log has a record for the address.
+    /// Whether the log has a record for the address.
     fn logs(&self, address: u64) -> bool
         ensures { result ≡ logged_in (entry_of self.now).undo address }
     {
         self.undo.latest(address).is_some()
     }
 
-    // Whether the log has, or has room for, a record for the address.
+    /// Whether the log has, or has room for, a record for the address.
     pub(crate) fn room(&self, address: u64) -> Result<(), Fault>
         ensures { result ≡ room_in (entry_of self.now).undo address }
     {
@@ -83,14 +83,14 @@ impl Entry {
         Err(Layer::Store.refuses(Refusal::UndoLogFull(address)))
     }
 
-    // Opens the thread with an empty log.
+    /// Opens the thread with an empty log.
     pub(crate) fn begin(&mut self)
         ensures { entry_of self.new ≡ begun }
     {
         self.reset(State::Open);
     }
 
-    // Only the first store to an address adds a record. A full log keeps its records.
+    /// Only the first store to an address adds a record. A full log keeps its records.
     pub(crate) fn note(&mut self, address: u64, old: u64)
         ensures { entry_of self.new ≡ noted_in (entry_of self.old) address old }
     {
@@ -99,7 +99,7 @@ impl Entry {
         }
     }
 
-    // Makes the thread idle and empties its log. Answers how many records there were.
+    /// Makes the thread idle and empties its log. Answers how many records there were.
     pub(crate) fn close(&mut self) -> u64
         ensures count { result ≡ length (entry_of self.old).undo }
         ensures after { entry_of self.new ≡ idle }
@@ -109,7 +109,7 @@ impl Entry {
         count
     }
 
-    // The records, oldest first.
+    /// The records, oldest first.
     pub(crate) fn undo(&self) -> &[Undo]
         ensures { result.now ≡ (entry_of self.now).undo }
     {

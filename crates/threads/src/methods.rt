@@ -1,4 +1,4 @@
-// What the table can do.
+//! What the table can do.
 ghost use Rattle.std.specs.Prelude.{◌≡◌, ◌<◌, ◌≤◌, ◌↔◌, IsOk, IfOk, IfErr, length, slice_set};
 ghost use Rattle.fault.specs.declared.Refusal.TheVariants.{ThreadOutOfRange};
 ghost use Rattle.threads.specs.Entries.{idle, begun, noted_in};
@@ -11,7 +11,7 @@ use fault::{Fault, Layer, Refusal};
 
 #[tactic(auto, using(crate::proofs::Tables::by_thread), unfolding(crate::specs::Tables::table_of, crate::specs::Tables::all_idle))]
 impl Table {
-    // All threads idle, all logs empty.
+    /// All threads idle, all logs empty.
     pub fn new() -> Self
         ensures value { table_of result ≡ all_idle }
     {
@@ -20,7 +20,7 @@ impl Table {
         }
     }
 
-    // Whether the thread's state allows the request.
+    /// Whether the thread's state allows the request.
     pub fn judge(&self, thread: u64, request: Request) -> Result<(), Fault>
         ensures answer { result ≡ judge_of (table_of self.now) thread request }
     {
@@ -28,7 +28,7 @@ impl Table {
         self.entries[index].judge(thread, request)
     }
 
-    // Whether the thread's log has, or has room for, a record for the address.
+    /// Whether the thread's log has, or has room for, a record for the address.
     pub fn room(&self, thread: u64, address: u64) -> Result<(), Fault>
         ensures answer { result ≡ room_of (table_of self.now) thread address }
     {
@@ -36,7 +36,7 @@ impl Table {
         self.entries[index].room(address)
     }
 
-    // Opens the thread with an empty log.
+    /// Opens the thread with an empty log.
     pub fn begin(&mut self, thread: u64)
         ensures after { table_of self.new ≡ slice_set (table_of self.old) thread begun }
     {
@@ -48,7 +48,7 @@ impl Table {
         }
     }
 
-    // Notes the old word of an address before the thread's first store there.
+    /// Notes the old word of an address before the thread's first store there.
     pub fn note(&mut self, thread: u64, address: u64, old: u64)
         ensures after { table_of self.new ≡ slice_set (table_of self.old) thread (noted_in (entry_at (table_of self.old) thread) address old) }
     {
@@ -60,7 +60,7 @@ impl Table {
         }
     }
 
-    // Makes the thread idle and empties its log. Answers how many records there were.
+    /// Makes the thread idle and empties its log. Answers how many records there were.
     pub fn close(&mut self, thread: u64) -> u64
         ensures count { result ≡ length (entry_at (table_of self.old) thread).undo }
         ensures fits { result ≤ 64 }
@@ -75,7 +75,7 @@ impl Table {
         entries[index].close()
     }
 
-    // The records of the thread's log, oldest first.
+    /// The records of the thread's log, oldest first.
     pub fn undo(&self, thread: u64) -> &[Undo]
         ensures value { result.now ≡ (entry_at (table_of self.now) thread).undo }
         ensures fits { length result.now ≤ 64 }
@@ -89,8 +89,8 @@ impl Table {
     }
 }
 
-// The index of the thread's entry. A number that is no thread's is refused.
-// Not the books' check: the table stands on no book, and refuses under the store's letter.
+/// The index of the thread's entry. A number that is no thread's is refused.
+/// Not the books' check: the table stands on no book, and refuses under the store's letter.
 fn index_of(thread: u64) -> Result<usize, Fault>
     ensures in_range { IsOk result ↔ (thread < 16) }
     ensures index { IfOk result (λ index. index ≡ thread) }
@@ -102,7 +102,7 @@ fn index_of(thread: u64) -> Result<usize, Fault>
     Ok(thread as usize)
 }
 
-// Refuses a number that is no thread's. As index_of, not the books' check.
+/// Refuses a number that is no thread's. As index_of, not the books' check.
 pub fn check_thread(thread: u64) -> Result<(), Fault>
     ensures { result ≡ thread_in thread }
 {

@@ -1,4 +1,4 @@
-// Unpacks a buoy report: reads its frames from standard input, and prints the words of each and what was done.
+//! Unpacks a buoy report: reads its frames from standard input, and prints the words of each and what was done.
 #![tactic(auto)]
 
 use frames::Unpacked;
@@ -6,7 +6,7 @@ use memory::{Image, Plain};
 use std::io;
 use std::io::Read;
 
-// the most bytes that are read, and the words of a whole table
+/// the most bytes that are read, and the words of a whole table
 const REPORT_BYTES: u64 = 4096;
 
 const TABLE_WORDS: usize = 512;

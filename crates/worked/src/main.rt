@@ -1,9 +1,9 @@
-// A worked list of calls, replayed on the board book: a receiver stores the figures of one half hour after the other, a writer
-// reads them, and a radio link disturbs both by seats and drops. Prints each answer, what each finished job of the
-// writer read, and the tokens that the blocks show at the end.
-//
-// Before that, the marks of one block through a worked sequence of takes.
-// Word 0 has the number of the half hour beside the wave height (word 1), word 8 has it beside the period (word 9).
+//! A worked list of calls, replayed on the board book: a receiver stores the figures of one half hour after the other, a writer
+//! reads them, and a radio link disturbs both by seats and drops. Prints each answer, what each finished job of the
+//! writer read, and the tokens that the blocks show at the end.
+//!
+//! Before that, the marks of one block through a worked sequence of takes.
+//! Word 0 has the number of the half hour beside the wave height (word 1), word 8 has it beside the period (word 9).
 #![tactic(auto)]
 
 mod marked_block;
@@ -61,7 +61,7 @@ const CALLS: [Call; 38] = [
     Call::Store(1, 8, 3),
 ];
 
-// A call, as the list prints it.
+/// A call, as the list prints it.
 #[derive(Clone, Copy)]
 struct CallText(Call);
 
@@ -79,7 +79,7 @@ impl fmt::Display for CallText {
     }
 }
 
-// An answer, as the list prints it.
+/// An answer, as the list prints it.
 #[derive(Clone, Copy)]
 struct AnswerText(Answer);
 
@@ -113,7 +113,7 @@ fn print_reading(rt: &HostRuntime, height: u64, period: u64) -> io::Result<()> {
     )
 }
 
-// What each finished job of the writer read as the half hour of the height and of the period.
+/// What each finished job of the writer read as the half hour of the height and of the period.
 fn print_readings(rt: &HostRuntime, turns: &[Turn]) -> io::Result<()> {
     let mut height = 0;
     let mut period = 0;

@@ -1,4 +1,4 @@
-// The marks of one block through loads from two boards, a refused store, a drop, releases and a granted store.
+//! The marks of one block through loads from two boards, a refused store, a drop, releases and a granted store.
 use board::BoardBook;
 use book::{Book, Marked};
 use fault::Fault;
@@ -6,7 +6,7 @@ use std::io;
 
 const BLOCK: u64 = 5;
 
-// The tokens that the block shows, and its codes: home, then boards 0 to 3.
+/// The tokens that the block shows, and its codes: home, then boards 0 to 3.
 fn print_marks(rt: &HostRuntime, book: &BoardBook) -> io::Result<()> {
     // The block is in range, so neither call refuses.
     if let (Ok(tokens), Ok(codes)) = (book.tokens(BLOCK), book.codes(BLOCK)) {
@@ -15,7 +15,7 @@ fn print_marks(rt: &HostRuntime, book: &BoardBook) -> io::Result<()> {
     Ok(())
 }
 
-// The book alone refuses here, so the layer's letter of the fault's own text is left out.
+/// The book alone refuses here, so the layer's letter of the fault's own text is left out.
 fn print_refused(rt: &HostRuntime, what: &str, fault: Fault) -> io::Result<()> {
     println!(rt; "{what}: refused, {} {}", fault.number(), fault.place())
 }
@@ -27,7 +27,7 @@ fn print_answer(rt: &HostRuntime, what: &str, answer: Result<(), Fault>) -> io::
     }
 }
 
-// A take's answer, and the marks after it.
+/// A take's answer, and the marks after it.
 fn print_take(
     rt: &HostRuntime,
     what: &str,
@@ -38,7 +38,7 @@ fn print_take(
     print_marks(rt, book)
 }
 
-// A thread's release, its figure, and the marks after it.
+/// A thread's release, its figure, and the marks after it.
 fn release(rt: &HostRuntime, thread: u64, book: &mut BoardBook) -> io::Result<()> {
     match book.release(thread) {
         Ok(figure) => println!(rt; "thread {thread} releases: {figure} records")?,
