@@ -1,5 +1,6 @@
-//! The shore-station store once more, as a plain Rust program: written from docs/RULES.md, docs/REFUSALS.md and
-//! docs/SCRIPT.md, without a line of the proved crates. The fuzz compares the two, and the benchmark measures them.
+//! The shore-station store once more, as a plain Rust program: written from docs/RULES.md,
+//! docs/REFUSALS.md and docs/SCRIPT.md, without a line of the proved crates. The fuzz compares the
+//! two, and the benchmark measures them.
 
 use std::io::{self, Write};
 
@@ -11,7 +12,7 @@ const TOKENS: u8 = 64;
 const UNDO_ROOM: usize = 64;
 const ROW_ROOM: usize = 64;
 
-// ---------------------------------------------------------------------------------------------------------------
+// -------------------------------------------------------------------------------------------------
 // Refusals
 
 #[derive(Clone, Copy, Debug, PartialEq, Eq)]
@@ -60,7 +61,7 @@ fn check_block(block: u64) -> Result<usize, Fault> {
     Ok(block as usize)
 }
 
-// ---------------------------------------------------------------------------------------------------------------
+// -------------------------------------------------------------------------------------------------
 // Memories
 
 pub trait Memory {
@@ -119,7 +120,7 @@ impl Memory for Image<'_> {
     }
 }
 
-// ---------------------------------------------------------------------------------------------------------------
+// -------------------------------------------------------------------------------------------------
 // Books
 
 /// Threads and blocks are in range here: the store has checked them.
@@ -178,7 +179,8 @@ impl Book for FullBook {
     }
 
     fn release(&mut self, thread: usize) -> u64 {
-        let held = self.holdings[thread].iter().filter(|&&holding| holding != Holding::None).count();
+        let holdings = &self.holdings[thread];
+        let held = holdings.iter().filter(|&&holding| holding != Holding::None).count();
         self.holdings[thread] = [Holding::None; BLOCKS];
         held as u64
     }
@@ -265,7 +267,8 @@ struct Account {
 
 impl Account {
     fn credit(&self, block: usize) -> u8 {
-        self.log.iter().filter(|record| usize::from(record.block) == block).map(|record| record.count).sum()
+        let records = self.log.iter().filter(|record| usize::from(record.block) == block);
+        records.map(|record| record.count).sum()
     }
 }
 
@@ -278,7 +281,8 @@ pub struct BoardBook {
 impl BoardBook {
     pub fn new() -> Self {
         let fresh = Block { home: Mark::Unnamed(0), copies: [None; BOARDS] };
-        BoardBook { blocks: [fresh; BLOCKS], accounts: std::array::from_fn(|_| Account { seat: 0, log: Vec::new() }) }
+        let accounts = std::array::from_fn(|_| Account { seat: 0, log: Vec::new() });
+        BoardBook { blocks: [fresh; BLOCKS], accounts }
     }
 
     fn record(&mut self, thread: usize, block: usize, count: u8) {
@@ -311,8 +315,9 @@ impl Book for BoardBook {
         let marks = &mut self.blocks[block];
         marks.gather();
         if marks.home.shown() != credit {
-            let holder = (0..THREADS).find(|&other| other != thread && self.accounts[other].credit(block) > 0);
-            return refuse(Layer::Book, 7, holder.expect("some thread holds each token shown") as u64);
+            let holds = |&other: &usize| other != thread && self.accounts[other].credit(block) > 0;
+            let holder = (0..THREADS).find(holds).expect("some thread holds each token shown");
+            return refuse(Layer::Book, 7, holder as u64);
         }
         marks.home = Mark::All(thread as u8);
         self.record(thread, block, TOKENS - credit);
@@ -343,7 +348,7 @@ impl Book for BoardBook {
     }
 }
 
-// ---------------------------------------------------------------------------------------------------------------
+// -------------------------------------------------------------------------------------------------
 // The store
 
 #[derive(Clone, Copy, Debug, PartialEq, Eq)]
@@ -482,7 +487,7 @@ fn check_thread(thread: u64) -> Result<usize, Fault> {
     Ok(thread as usize)
 }
 
-// ---------------------------------------------------------------------------------------------------------------
+// -------------------------------------------------------------------------------------------------
 // The script
 
 fn number(field: &[u8]) -> Option<u64> {
@@ -602,7 +607,7 @@ pub fn run_fresh(script: &[u8], report: &mut [u8]) -> Run {
     run(&mut store, script, report)
 }
 
-// ---------------------------------------------------------------------------------------------------------------
+// -------------------------------------------------------------------------------------------------
 // Calls as numbers
 
 fn decode(&[letter, first, second, third]: &[u64; 4]) -> Option<Call> {
@@ -627,8 +632,8 @@ fn encode(answer: Answer) -> [u64; 4] {
     }
 }
 
-/// Makes the calls, four numbers each, on a fresh store over the table's bytes, as far as the answers have room and the
-/// letters are the script's; answers how many were made.
+/// Makes the calls, four numbers each, on a fresh store over the table's bytes, as far as the
+/// answers have room and the letters are the script's; answers how many were made.
 pub fn replay<B: Book>(book: B, table: &mut [u8], calls: &[u64], answers: &mut [u64]) -> usize {
     let mut store = Store::new(Image::new(table), book);
     let (calls, _) = calls.as_chunks();
