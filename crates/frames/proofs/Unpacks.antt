@@ -1,73 +1,75 @@
 -- Frames copied through a window over the table: what the table holds then.
-use Rattle.std.proofs.Common.{◌≡◌, ℕ, ◌+◌, ◌*◌, List, ◌++◌, length, take, drop, sym, ap, ◌∙◌, append_assoc, append-nil, arith}
-use Rattle.std.proofs.lemmas.List.{take-append-drop, drop-append-le, drop_all}
+use Rattle.std.proofs.Common.{◌≡◌, ℕ, ◌+◌, ◌*◌, ◌/◌, min, List, ◌++◌, length, take, drop, sym, ap, ◌∙◌, append-nil, arith}
+use Rattle.std.proofs.lemmas.List.{drop_all, length-take}
 use Rattle.std.proofs.lemmas.Grind.{common_steps}
-use Rattle.memory.specs.Words.{whole_blocks}
-use Rattle.memory.specs.Buffers.{plain_words, plain_beyond, image_words}
+use Rattle.memory.specs.Words.{Whole, whole_blocks}
+use Rattle.memory.specs.Buffers.{image_words}
 use Rattle.memory.specs.Windows.{start_of, blocks_of, window_words, window_beyond}
-use Rattle.memory.specs.Fronts.{length-plain, whole_plain}
 use Rattle.memory.specs.Images.{length-image}
 use Rattle.memory.specs.WindowsLemmas.{length-window, window_rejoined}
-use Rattle.frames.specs.Frames.{count_of, copied, unpacked_blocks, unpacked_table}
+use Rattle.frames.specs.Frames.{count_of, copied, unpacked_blocks, unpacked_words}
 
--- the words of a window over a table
-pub length-table_window : (table : List ℕ) (first count : ℕ) → length (window_words (plain_words table) first count) ≡ 8 * blocks_of (plain_words table) first count
-length-table_window table first count = length-window (plain_words table) (whole_plain table) first count
+-- as many frames as the used bytes have are those of the whole report
+pub frames_used : (bytes : List ℕ) → whole_blocks (length (take 4096 bytes)) 64 ≡ whole_blocks (length bytes) 64
+frames_used bytes = omega (arith, length-take 4096 bytes)
 
-module _ (bytes table : List ℕ) where
+module _ (bytes ws : List ℕ) (whole : Whole ws) where
   n : ℕ
-  n = unpacked_blocks bytes table
+  n = unpacked_blocks bytes ws
 
-  ws : List ℕ
-  ws = plain_words table
+  frames : List ℕ
+  frames = image_words (take 4096 bytes)
 
-  frames : ℕ
-  frames = whole_blocks (length bytes) 64
+  blocks : ℕ
+  blocks = whole_blocks (length bytes) 64
 
-  blocks_is : blocks_of ws 0 frames ≡ n
-  unfolding n ws frames
-  blocks_is = omega (arith, length-plain table)
+  length-frames : length frames ≡ 8 * blocks
+  unfolding frames blocks
+  length-frames = omega (arith, length-image (take 4096 bytes), frames_used bytes)
 
-  count_is : count_of (image_words bytes) (window_words (plain_words table) 0 (whole_blocks (length bytes) 64)) ≡ 8 * unpacked_blocks bytes table
-  count_is = omega (arith, length-image bytes, length-plain table, length-table_window table 0 (whole_blocks (length bytes) 64))
+  blocks_is : blocks_of ws 0 blocks ≡ n
+  unfolding n blocks
+  blocks_is = omega arith
 
-  -- the window is filled whole
-  filled : copied (image_words bytes) (window_words ws 0 frames) ≡ take (8 * n) (image_words bytes)
-  unfolding n ws frames
-  filled =
-      ap (λ k. take k (image_words bytes) ++ drop k (window_words ws 0 frames)) count_is
-      ∙ ap (λ l. take (8 * n) (image_words bytes) ++ l) (drop_all (8 * n) _ (omega (arith, blocks_is, length-table_window table 0 frames)))
-      ∙ append-nil _
+  pub count_is : (count : ℕ) → 8 * count ≡ length (image_words (take 4096 bytes)) → count_of (image_words (take 4096 bytes)) (window_words ws 0 count) ≡ 8 * unpacked_blocks bytes ws
+  unfolding frames blocks
+  count_is count e = omega (arith, e, length-frames, length-window ws whole 0 count)
 
-  rest : drop (8 * n) ws ++ drop (8 * whole_blocks (length table) 8) table ≡ drop (8 * n) table
-  unfolding n ws
-  rest =
-      sym (drop-append-le (8 * n) ws (drop (8 * whole_blocks (length table) 8) table) (omega (arith, length-plain table)))
-      ∙ ap (drop (8 * n)) (take-append-drop (8 * whole_blocks (length table) 8) table)
+  module _ (first count : ℕ) (from : first ≡ 0) (many : 8 * count ≡ length (image_words (take 4096 bytes))) where
+    count_blocks : count ≡ blocks
+    unfolding frames blocks
+    count_blocks = omega (arith, many, length-frames)
 
-  module _ (after : List ℕ) (first count : ℕ) where
-    unpacked-so : window_words (plain_words after) first count ≡ copied (image_words bytes) (window_words (plain_words table) 0 (whole_blocks (length bytes) 64)) → window_beyond (plain_words after) first count ++ plain_beyond after ≡ window_beyond (plain_words table) 0 (whole_blocks (length bytes) 64) ++ plain_beyond table → after ≡ unpacked_table bytes table
-    unfolding n ws frames
-    unpacked-so inside beyond =
-        let before : take (8 * start_of (plain_words after) first) (plain_words after) ≡ take (8 * start_of ws 0) ws = cc in
-        let behind : drop (8 * (start_of (plain_words after) first + blocks_of (plain_words after) first count)) (plain_words after) ≡ drop (8 * (start_of ws 0 + blocks_of ws 0 frames)) ws = cc in
-        let past : drop (8 * whole_blocks (length after) 8) after ≡ drop (8 * whole_blocks (length table) 8) table = cc in
-        let none : 8 * start_of ws 0 ≡ 0 = omega arith in
-        let to_end : 8 * (start_of ws 0 + blocks_of ws 0 frames) ≡ 8 * n = omega (arith, blocks_is) in
-        let words : plain_words after ≡ take (8 * n) (image_words bytes) ++ drop (8 * n) ws =
-        sym (window_rejoined (plain_words after) first count)
-        ∙ (λ i. (before ∙ ap (λ k. take k ws) none) i ++ ((inside ∙ filled) i ++ (behind ∙ ap (λ k. drop k ws) to_end) i)) in
-        sym (take-append-drop (8 * whole_blocks (length after) 8) after)
-        ∙ (λ i. words i ++ past i)
-        ∙ append_assoc (take (8 * n) (image_words bytes)) (drop (8 * n) ws) _
-        ∙ ap (λ l. take (8 * n) (image_words bytes) ++ l) rest
+    -- the window is filled whole
+    filled : copied frames (window_words ws 0 blocks) ≡ take (8 * n) frames
+    unfolding n frames blocks
+    filled =
+        ap (λ k. take k frames ++ drop k (window_words ws 0 blocks)) (count_is blocks (omega (arith, length-frames)))
+        ∙ ap (λ l. take (8 * n) frames ++ l) (drop_all (8 * n) _ (omega (arith, blocks_is, length-window ws whole 0 blocks)))
+        ∙ append-nil _
 
-  -- the same, of the window as `unpack` makes it
-  pub unpacked : (table' : List ℕ) (first₀ count₀ : ℕ) → table' ≡ table → first₀ ≡ 0 → 8 * count₀ ≡ length (image_words bytes) → (after : List ℕ) (first count : ℕ) → window_words (plain_words after) first count ≡ copied (image_words bytes) (window_words (plain_words table') first₀ count₀) → window_beyond (plain_words after) first count ++ plain_beyond after ≡ window_beyond (plain_words table') first₀ count₀ ++ plain_beyond table' → after ≡ unpacked_table bytes table
-  unpacked table' first₀ count₀ et ef es after first count inside beyond =
-      let ec : count₀ ≡ whole_blocks (length bytes) 64 = omega (arith, length-image bytes) in
-      unpacked-so after first count
-      (inside ∙ (λ i. copied (image_words bytes) (window_words (plain_words (et i)) (ef i) (ec i))))
-      (beyond ∙ (λ i. window_beyond (plain_words (et i)) (ef i) (ec i) ++ plain_beyond (et i)))
+    pub unpacked : (after : List ℕ) (first' count' : ℕ) → window_words after first' count' ≡ copied (image_words (take 4096 bytes)) (window_words ws first count) → take (8 * start_of after first') after ≡ take (8 * start_of ws first) ws → drop (8 * (start_of after first' + blocks_of after first' count')) after ≡ drop (8 * (start_of ws first + blocks_of ws first count)) ws → after ≡ unpacked_words bytes ws
+    unfolding n frames blocks
+    unpacked after first' count' inside before behind =
+        let here = inside ∙ (λ i. copied frames (window_words ws (from i) (count_blocks i))) ∙ filled in
+        let none : 8 * start_of ws first ≡ 0 = omega (arith, from) in
+        let to_end : 8 * (start_of ws first + blocks_of ws first count) ≡ 8 * n = omega (arith, from, blocks_is, count_blocks) in
+        sym (window_rejoined after first' count')
+        ∙ (λ i. (before ∙ ap (λ k. take k ws) none) i ++ (here i ++ (behind ∙ ap (λ k. drop k ws) to_end) i))
 
-pub ruleset unpacking = (length-image, length-plain, length-table_window, common_steps)
+-- the same, of the frames and the window as `unpack` makes them
+module _ (bytes ws items below : List ℕ) (whole : Whole ws) (first count : ℕ) (used : items ≡ take 4096 bytes) (table : below ≡ ws) (from : first ≡ 0) (many : 8 * count ≡ length (image_words items)) where
+  many_used : 8 * count ≡ length (image_words (take 4096 bytes))
+  many_used = many ∙ ap (λ l. length (image_words l)) used
+
+  pub counted : count_of (image_words items) (window_words below first count) ≡ 8 * unpacked_blocks bytes ws
+  counted = (λ i. count_of (image_words (used i)) (window_words (table i) (from i) count)) ∙ count_is bytes ws whole count many_used
+
+  pub unpacked_so : (after : List ℕ) (first' count' : ℕ) → window_words after first' count' ≡ copied (image_words items) (window_words below first count) → take (8 * start_of after first') after ≡ take (8 * start_of below first) below → drop (8 * (start_of after first' + blocks_of after first' count')) after ≡ drop (8 * (start_of below first + blocks_of below first count)) below → after ≡ unpacked_words bytes ws
+  unpacked_so after first' count' inside before behind =
+      unpacked bytes ws whole first count from many_used after first' count'
+      (inside ∙ (λ i. copied (image_words (used i)) (window_words (table i) first count)))
+      (before ∙ (λ i. take (8 * start_of (table i) first) (table i)))
+      (behind ∙ (λ i. drop (8 * (start_of (table i) first + blocks_of (table i) first count)) (table i)))
+
+pub ruleset unpacking = (length-image, frames_used, common_steps)

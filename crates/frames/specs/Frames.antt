@@ -1,5 +1,5 @@
 -- Words copied from one memory to another, and a report's frames unpacked into a table.
-use Rattle.std.specs.Prelude.{ℕ, ◌-◌, ◌*◌, min, List, ◌++◌, length, take, drop}
+use Rattle.std.specs.Prelude.{ℕ, ◌-◌, ◌*◌, ◌/◌, min, List, ◌++◌, length, take, drop}
 use Rattle.frames.specs.declared.Unpacked.{Unpacked}
 use Rattle.memory.specs.Words.{whole_blocks}
 use Rattle.memory.specs.Buffers.{image_words}
@@ -12,18 +12,20 @@ count_of from to = min (length from) (length to)
 abbrev pub copied : List ℕ → List ℕ → List ℕ
 copied from to = take (count_of from to) from ++ drop (count_of from to) to
 
--- the whole frames that fit the table, of bytes that arrive and a table of words
+-- the whole frames of a report that fit a table of words: at most 64, the blocks of the largest memory
 abbrev pub unpacked_blocks : List ℕ → List ℕ → ℕ
-unpacked_blocks bytes table = min (whole_blocks (length bytes) 64) (whole_blocks (length table) 8)
+unpacked_blocks bytes words = min (whole_blocks (length bytes) 64) (length words / 8)
 
--- the table with those frames' words, big-endian, at its front
-abbrev pub unpacked_table : List ℕ → List ℕ → List ℕ
-unpacked_table bytes table = take (8 * unpacked_blocks bytes table) (image_words bytes) ++ drop (8 * unpacked_blocks bytes table) table
+-- the table's words with those of the frames, big-endian, at their front
+abbrev pub unpacked_words : List ℕ → List ℕ → List ℕ
+unpacked_words bytes words =
+    let n = 8 * unpacked_blocks bytes words in take n (image_words (take 4096 bytes)) ++ drop n words
 
+-- all bytes behind the last frame that was unpacked are left over
 abbrev pub unpacked_answer : List ℕ → List ℕ → Unpacked
-unpacked_answer bytes table =
+unpacked_answer bytes words =
     record {
-      blocks = unpacked_blocks bytes table;
-      words = 8 * unpacked_blocks bytes table;
-      trailing = length bytes - 64 * unpacked_blocks bytes table;
+      blocks = unpacked_blocks bytes words;
+      words = 8 * unpacked_blocks bytes words;
+      trailing = length bytes - 64 * unpacked_blocks bytes words;
     }

@@ -1,11 +1,12 @@
 //! Frames of a buoy report: blocks of eight big-endian words, unpacked into a table of words.
 #![tactic(auto)]
 
-ghost use Rattle.std.specs.Prelude.{◌≡◌, Ok, IsOk, IfOk};
-ghost use Rattle.frames.specs.Frames.{copied, count_of, unpacked_answer, unpacked_table};
+ghost use Rattle.std.specs.Prelude.{◌≡◌, ◌≤◌, ◌↔◌, length, take, replicate, Ok, IsOk, IfOk, IsTrue};
+ghost use Rattle.frames.specs.Frames.{copied, count_of, unpacked_answer, unpacked_words};
+ghost use Rattle.memory.specs.Buffers.{plain_words};
 
 use fault::Fault;
-use memory::{Image, Memory, Plain, Window};
+use memory::{ImageArray, MOST_BYTES, MOST_WORDS, Memory, PlainArray, Window};
 
 /// Copies word by word, up to the end of the smaller memory, and answers how many words were copied.
 #[tactic(auto, using(crate::proofs::Copies::copying))]
@@ -31,18 +32,20 @@ pub struct Unpacked {
     pub trailing: u64,
 }
 
-/// Unpacks the whole frames of a report into the front of a table, as many as there are and as the table has room for.
-/// The table is given back beside what was done.
+/// Unpacks the whole frames of a report into the front of a table, as many as there are (64 at most) and as the table has
+/// room for. The table is given back beside what was done.
 #[tactic(auto, using(crate::proofs::Unpacks::unpacking))]
-pub fn unpack(report: &Image, table: Plain) -> Result<(Plain, Unpacked), Fault>
+pub fn unpack<M: Memory + Drop>(report: &[u8], table: M) -> Result<(M, Unpacked), Fault>
     ensures granted { IsOk result }
-    ensures table { IfOk result (λ done. done.0.buffer.items ≡ unpacked_table report.now.buffer.items table.buffer.items) }
-    ensures answer { IfOk result (λ done. done.1 ≡ unpacked_answer report.now.buffer.items table.buffer.items) }
+    ensures table { IfOk result (λ done. M.words done.0 ≡ unpacked_words report.now (M.words table)) }
+    ensures beyond { IfOk result (λ done. M.beyond done.0 ≡ M.beyond table) }
+    ensures answer { IfOk result (λ done. done.1 ≡ unpacked_answer report.now (M.words table)) }
 {
-    let mut window = Window::over(table, 0, report.size());
-    let words = copy(report, &mut window)?;
+    let frames = ImageArray::copy_of(report);
+    let mut window = Window::over(table, 0, frames.size());
+    let words = copy(&frames, &mut window)?;
     let blocks = words / 8;
-    let trailing = report.buffer().len() as u64 - 64 * blocks;
+    let trailing = report.len() as u64 - 64 * blocks;
     Ok((
         window.into_below(),
         Unpacked {
@@ -51,4 +54,29 @@ pub fn unpack(report: &Image, table: Plain) -> Result<(Plain, Unpacked), Fault>
             trailing,
         },
     ))
+}
+
+/// What the program `unpack` makes of its input.
+#[derive(Drop)]
+pub struct Report {
+    pub table: PlainArray<MOST_WORDS>,
+    pub unpacked: Unpacked,
+    /// whether there are 4,096 bytes, so that there may be more that was not read
+    pub full: bool,
+}
+
+/// All that the program `unpack` does with the bytes that it reads: the frames of the first 4,096 go into a table of 512
+/// zero words.
+pub fn unpack_input(input: &[u8]) -> Report
+    ensures table { plain_words result.table.buffer.items ≡ unpacked_words (take 4096 input.now) (replicate 512 0) }
+    ensures unpacked { result.unpacked ≡ unpacked_answer (take 4096 input.now) (replicate 512 0) }
+    ensures full { IsTrue result.full ↔ (4096 ≤ length input.now) }
+{
+    let read = &input[..input.len().min(MOST_BYTES)];
+    let (table, unpacked) = unpack(read, PlainArray::filled(0)).unwrap();
+    Report {
+        table,
+        unpacked,
+        full: input.len() >= MOST_BYTES,
+    }
 }

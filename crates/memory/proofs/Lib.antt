@@ -1,2 +1,3 @@
 pub mod Bytes
 pub mod Windows
+pub mod Lent

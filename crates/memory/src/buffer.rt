@@ -1,9 +1,10 @@
 //! Buffer: a memory over a buffer of items, each a word or a byte of a word.
-ghost use Rattle.std.specs.Prelude.{◌≡◌, ℕ, ◌*◌, ◌^◌, ◌<◌, ◌≤◌, List, length, slice_index, slice_set};
+ghost use Rattle.std.specs.Prelude.{◌≡◌, ℕ, ◌*◌, ◌^◌, ◌<◌, ◌≤◌, List, length, slice_index, slice_set, OnErr};
 ghost use Rattle.memory.specs.Words.{write_answer, whole_blocks};
 ghost use Rattle.memory.specs.Fronts.{whole_counted};
 
 use super::Memory;
+use crate::storage::Storage;
 use fault::Fault;
 
 /// An item of a buffer, and how words lie in a buffer of such items: the whole blocks at its front, at most 64, are the
@@ -49,57 +50,59 @@ pub trait Item: Copy {
 
 /// The items behind the whole blocks are never touched.
 #[derive(Drop)]
-pub struct Buffer<T> {
-    buffer: Vec<T>,
+pub struct Buffer<S> {
+    buffer: S,
 }
 
-impl<T: Item> Buffer<T> {
-    pub fn over(buffer: Vec<T>) -> Buffer<T>
+impl<S: Storage> Buffer<S> {
+    pub fn over(buffer: S) -> Buffer<S>
         ensures { result.buffer ≡ buffer }
     {
         Buffer { buffer }
     }
 
-    /// The whole buffer, with what lies behind the blocks.
-    pub fn buffer(&self) -> &[T]
-        ensures { result.now ≡ self.now.buffer.items }
+    /// All items, with those behind the blocks.
+    pub fn buffer(&self) -> &[S::Elem]
+        ensures { result.now ≡ S.items self.now.buffer }
     {
-        &self.buffer
+        self.buffer.items()
     }
 
     /// The buffer, given back.
-    pub fn into_buffer(self) -> Vec<T>
+    pub fn into_buffer(self) -> S
         ensures { result ≡ self.buffer }
     {
-        self.buffer
+        let Self { buffer } = self;
+        buffer
     }
 }
 
-impl<T: Item> Memory for Buffer<T> {
-    ghost words = { λ m. T.words m.buffer.items };
+impl<S: Storage> Memory for Buffer<S> {
+    ghost words = { λ m. S.Elem.words (S.items m.buffer) };
 
-    ghost beyond = { λ m. T.beyond m.buffer.items };
+    ghost beyond = { λ m. S.Elem.beyond (S.items m.buffer) };
 
-    ghost whole = { λ m. whole_counted (T.words m.buffer.items) (length m.buffer.items) T.PER_BLOCK (T.counted m.buffer.items) };
+    ghost whole = { λ m. whole_counted (S.Elem.words (S.items m.buffer)) (length (S.items m.buffer)) S.Elem.PER_BLOCK (S.Elem.counted (S.items m.buffer)) };
 
     fn size(&self) -> u64 {
-        (self.buffer.len() / T::PER_BLOCK).min(64) as u64
+        (self.buffer.items().len() / S::Elem::PER_BLOCK).min(64) as u64
     }
 
     fn read(&self, address: u64) -> Result<u64, Fault> {
         super::check(address, self.size())?;
-        Ok(T::word_at(&self.buffer, address as usize))
+        Ok(S::Elem::word_at(self.buffer.items(), address as usize))
     }
 
     /// The trait's clauses stand again, since an impl that adds one (items) names them all.
     fn write(&mut self, address: u64, word: u64) -> Result<(), Fault>
-        ensures answer { result ≡ write_answer (T.words self.old.buffer.items) address }
-        ensures after { T.words self.new.buffer.items ≡ slice_set (T.words self.old.buffer.items) address word }
-        ensures beyond { T.beyond self.new.buffer.items ≡ T.beyond self.old.buffer.items }
-        ensures items { self.new.buffer.items ≡ T.after self.old.buffer.items address word }
+        ensures answer { result ≡ write_answer (S.Elem.words (S.items self.old.buffer)) address }
+        ensures after { S.Elem.words (S.items self.new.buffer) ≡ slice_set (S.Elem.words (S.items self.old.buffer)) address word }
+        ensures beyond { S.Elem.beyond (S.items self.new.buffer) ≡ S.Elem.beyond (S.items self.old.buffer) }
+        ensures refused { OnErr result (self.new ≡ self.old) }
+        ensures items { S.items self.new.buffer ≡ S.Elem.after (S.items self.old.buffer) address word }
     {
         super::check(address, self.size())?;
-        T::put_word(&mut self.buffer, address as usize, word);
+        self.buffer.put_word(address as usize, word);
         Ok(())
     }
 }

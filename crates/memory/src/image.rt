@@ -1,11 +1,31 @@
 //! Byte image: each item of the buffer is a byte, and each word stands in eight of them, the most significant first.
 ghost use Rattle.std.proofs.Common.{lit<};
+ghost use Rattle.std.specs.Prelude.{◌≡◌, take};
 ghost use Rattle.memory.specs.Buffers.{image_words, image_beyond, image_after};
 ghost use Rattle.memory.specs.Images.{length-image, image_words-after, image_beyond-after, image_after-past};
 
 use crate::buffer::{Buffer, Item};
+use arrayvec::ArrayVec;
 
-pub type Image = Buffer<u8>;
+/// The bytes of the most blocks that a memory has.
+pub const MOST_BYTES: usize = 4096;
+
+/// Over a vector of bytes.
+pub type Image = Buffer<Vec<u8>>;
+
+/// Over an array of at most N bytes, which allocates nothing.
+pub type ImageArray<const N: usize> = Buffer<ArrayVec<u8, N>>;
+
+impl ImageArray<MOST_BYTES> {
+    /// Over a copy of the bytes, or of the first 4,096 where there are more: those are all that a memory can use.
+    #[tactic(auto, using(crate::proofs::Lent::used_is))]
+    pub fn copy_of(bytes: &[u8]) -> Self
+        ensures { result.buffer.items ≡ take 4096 bytes.now }
+    {
+        let used = &bytes[..bytes.len().min(MOST_BYTES)];
+        Buffer::over(ArrayVec::try_from(used).unwrap())
+    }
+}
 
 impl Item for u8 {
     const PER_BLOCK: usize = 64;

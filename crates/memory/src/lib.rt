@@ -4,15 +4,16 @@
 mod buffer;
 mod image;
 mod plain;
+mod storage;
 mod window;
 
-ghost use Rattle.std.specs.Prelude.{◌≡◌, ℕ, ◌*◌, ◌≤◌, cond, nat_lt, List, length, slice_set};
+ghost use Rattle.std.specs.Prelude.{◌≡◌, ℕ, ◌*◌, ◌≤◌, cond, nat_lt, List, length, slice_set, OnErr};
 ghost use Rattle.memory.specs.Words.{Whole, read_answer, write_answer, address_fault};
 
 pub use buffer::Buffer;
 use fault::{Fault, Layer, Refusal};
-pub use image::Image;
-pub use plain::Plain;
+pub use image::{Image, ImageArray, MOST_BYTES};
+pub use plain::{MOST_WORDS, Plain, PlainArray};
 pub use window::Window;
 
 /// A memory means a list of words, in whole blocks of eight and at most 64 blocks, whose length never changes.
@@ -32,11 +33,12 @@ pub trait Memory {
     fn read(&self, address: u64) -> Result<u64, Fault>
         ensures answer { result ≡ read_answer (words self.now) address };
 
-    /// Replaces the word at an address.
+    /// Replaces the word at an address. A refused write leaves the whole memory.
     fn write(&mut self, address: u64, word: u64) -> Result<(), Fault>
         ensures answer { result ≡ write_answer (words self.old) address }
         ensures after { words self.new ≡ slice_set (words self.old) address word }
-        ensures beyond { beyond self.new ≡ beyond self.old };
+        ensures beyond { beyond self.new ≡ beyond self.old }
+        ensures refused { OnErr result (self.new ≡ self.old) };
 
     // whole blocks, at most 64
     ghost whole: { (m : Self) → Whole (words m) };

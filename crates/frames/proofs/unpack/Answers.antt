@@ -1,12 +1,45 @@
-use Rattle.std.proofs.Common.{vec_items, ap, ◌∙◌, rules}
-use Rattle.frames.proofs.Unpacks.{unpacked}
+use Rattle.std.proofs.Common.{◌≡◌, ℕ, ◌+◌, ◌*◌, ◌/◌, ◌≤◌, Ok, length, take, drop, refl, ap, sym, ◌∙◌, arith}
+use Rattle.memory.specs.Buffers.{image_words}
+use Rattle.memory.specs.Windows.{start_of, blocks_of, window_words, window_beyond}
+use Rattle.frames.specs.Frames.{count_of, unpacked_blocks}
+use Rattle.frames.proofs.Unpacks.{counted, unpacked_so}
 use Rattle.frames.proofs.unpack.Goals as goal
 
+-- how many words are copied
+pub overflow_sub-trailing : goal.overflow_sub-trailing
+overflow_sub-trailing g c =
+    let w = c.over-window in
+    let below = ap g.M.Memory.words w.ensures.below in
+    let is = counted c.args.report.now (g.M.Memory.words c.args.table) c.copy_of-frames.result.buffer.items (g.M.Memory.words w.result.below) (g.met.M.Memory.whole c.args.table) w.result.first w.result.count c.copy_of-frames.ensures below w.ensures.first (ap (λ n. 8 * n) w.ensures.count ∙ c.size.ensures.answer) in
+    let words : c.in_ok-words.words ≡ count_of (image_words c.copy_of-frames.result.buffer.items) (window_words (g.M.Memory.words w.result.below) w.result.first w.result.count) =
+    let answer = c.in_ok-words.ensures.answer in cc in
+    omega (arith, words, is)
+
+pub returns-clause-answer : goal.returns-clause-answer
+returns-clause-answer g c =
+    let w = c.over-window in
+    let below = ap g.M.Memory.words w.ensures.below in
+    let is = counted c.args.report.now (g.M.Memory.words c.args.table) c.copy_of-frames.result.buffer.items (g.M.Memory.words w.result.below) (g.met.M.Memory.whole c.args.table) w.result.first w.result.count c.copy_of-frames.ensures below w.ensures.first (ap (λ n. 8 * n) w.ensures.count ∙ c.size.ensures.answer) in
+    let words : c.in_ok-words.words ≡ count_of (image_words c.copy_of-frames.result.buffer.items) (window_words (g.M.Memory.words w.result.below) w.result.first w.result.count) =
+    let answer = c.in_ok-words.ensures.answer in cc in
+    let blocks : c.in_ok-words.words / 8 ≡ unpacked_blocks c.args.report.now (g.M.Memory.words c.args.table) = omega (arith, words, is) in
+    rw blocks (rw (words ∙ is) refl)
+
 pub returns-clause-table : goal.returns-clause-table
-returns-clause-table c =
-    let window = c.over-window.result in
+returns-clause-table g c =
+    let w = c.over-window in
+    let below = ap g.M.Memory.words w.ensures.below in
     let after = c.copy.new.to in
-    ap (λ m. vec_items m.buffer) c.into_below.ensures
-    ∙ unpacked (vec_items c.args.report.now.buffer) (vec_items c.args.table.buffer)
-    (vec_items window.below.buffer) window.first window.count (ap (λ m. vec_items m.buffer) c.over-window.ensures.below) c.over-window.ensures.first (search rules)
-    (vec_items after.below.buffer) after.first after.count c.copy.ensures.after c.copy.ensures.beyond
+    let kept = c.copy.ensures.beyond in
+    let before : take (8 * start_of (g.M.Memory.words after.below) after.first) (g.M.Memory.words after.below) ≡ take (8 * start_of (g.M.Memory.words w.result.below) w.result.first) (g.M.Memory.words w.result.below) = cc in
+    let behind : drop (8 * (start_of (g.M.Memory.words after.below) after.first + blocks_of (g.M.Memory.words after.below) after.first after.count)) (g.M.Memory.words after.below) ≡ drop (8 * (start_of (g.M.Memory.words w.result.below) w.result.first + blocks_of (g.M.Memory.words w.result.below) w.result.first w.result.count)) (g.M.Memory.words w.result.below) = cc in
+    ap g.M.Memory.words c.into_below.ensures
+    ∙ unpacked_so c.args.report.now (g.M.Memory.words c.args.table) c.copy_of-frames.result.buffer.items (g.M.Memory.words w.result.below) (g.met.M.Memory.whole c.args.table) w.result.first w.result.count c.copy_of-frames.ensures below w.ensures.first (ap (λ n. 8 * n) w.ensures.count ∙ c.size.ensures.answer)
+    (g.M.Memory.words after.below) after.first after.count c.copy.ensures.after before behind
+
+pub returns-clause-beyond : goal.returns-clause-beyond
+returns-clause-beyond g c =
+    let kept = c.copy.ensures.beyond in
+    let given = c.into_below.ensures in
+    let over = c.over-window.ensures.below in
+    cc
