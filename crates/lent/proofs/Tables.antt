@@ -1,25 +1,7 @@
 -- The bytes that a memory is lent, given back, and the numbers of an answer written.
-use Rattle.std.proofs.Common.{◌≡◌, ℕ, zero, suc, ◌+◌, ◌*◌, ◌/◌, ◌≤◌, min, List, [], ◌∷◌, ◌++◌, length, slice_index_or, set, take, drop, sym, refl, ap, ◌∙◌, ⊎_elim, length-drop, drop_of_length-le, arith}
-use Rattle.std.proofs.lemmas.List.{take_all}
-use Rattle.std.proofs.lemmas.Bool.{cases_lt}
+use Rattle.std.proofs.Common.{◌≡◌, ℕ, zero, suc, ◌+◌, ◌*◌, ◌/◌, ◌≤◌, min, List, [], ◌∷◌, ◌++◌, length, slice_index_or, set, take, drop, sym, refl, ap, ◌∙◌, ⊎_elim, length-drop, length-take, arith}
 use Rattle.memory.specs.Buffers.{image_words, image_beyond}
 use Rattle.memory.specs.Images.{length-image}
-
--- a table of up to 4096 bytes is lent whole
-module _ (t : List ℕ) (n : ℕ) (e : n ≡ min (length t) 4096) where
-  pub lent_is : take n t ≡ take 4096 t
-  lent_is =
-      ⊎_elim
-      (λ short. take_all n t (omega arith) ∙ sym (take_all 4096 t (omega arith)))
-      (λ long. let whole : n ≡ 4096 = omega arith in ap (λ k. take k t) whole)
-      (cases_lt (length t) 4096)
-
-  pub rest_is : drop n t ≡ drop 4096 t
-  rest_is =
-      ⊎_elim
-      (λ short. drop_of_length-le t {i = n} (omega arith) ∙ sym (drop_of_length-le t {i = 4096} (omega arith)))
-      (λ long. let whole : n ≡ 4096 = omega arith in ap (λ k. drop k t) whole)
-      (cases_lt (length t) 4096)
 
 -- a memory's buffer keeps its length
 pub same_length : (a b : List ℕ) → length (image_words b) ≡ length (image_words a) → image_beyond b ≡ image_beyond a → length b ≡ length a
@@ -33,6 +15,10 @@ same_length a b words beyond =
       length-drop (64 * min (length a / 64) 64) a,
       length-drop (64 * min (length b / 64) 64) b,
     )
+
+-- a memory over what a table lends has as many bytes as it lends
+pub length_is : (table : List ℕ) {given : List ℕ} (bytes : List ℕ) → length bytes ≡ length given → given ≡ take 4096 table → length bytes ≡ min (length table) 4096
+length_is table bytes kept lent = omega (arith, kept, ap length lent, length-take 4096 table)
 
 -- four numbers written one after the other
 stepped : (at : ℕ) (xs : List ℕ) (a b c d : ℕ) → at + 4 ≤ length xs → set (set (set (set xs at a) (suc at) b) (suc (suc at)) c) (suc (suc (suc at))) d ≡ take at xs ++ (a ∷ b ∷ c ∷ d ∷ [] ++ drop 4 (drop at xs))

@@ -1,7 +1,9 @@
 use Rattle.std.proofs.Common.{◌≡◌, ◌*◌, ◌+◌, ◌/◌, ◌≤◌, ◌++◌, [], ◌∷◌, min, length, get_or, rules, take, drop, refl, sym, ap, ◌∙◌, arith}
 use Rattle.lent.specs.Numbers.{calls_of}
 use Rattle.lent.proofs.Made.{groups_are, four_of, calls_from, none_from, sofar_none, sofar_more, sofar_all, turns_of}
-use Rattle.lent.proofs.Tables.{lent_is, rest_is, same_length, written}
+use Rattle.std.proofs.lemmas.List.{length-take}
+use Rattle.memory.proofs.Lent.{rest_is}
+use Rattle.lent.proofs.Tables.{length_is, same_length, written}
 use Rattle.lent.proofs.replays.replay.Goals as goal
 use Rattle.lent.proofs.replays.replay.Goals.{else-loop-group-test, then-loop-group-test+in_default}
 
@@ -27,19 +29,14 @@ loop-group-preserved g c =
 pub copy_from_slice-requires : goal.copy_from_slice-requires
 copy_from_slice-requires g c =
     let far = c.loop-group.invariant.far in
-    let e = same_length c.fresh-store.result.memory.buffer.items c.loop-group.store.memory.buffer.items far.reached.size far.untouched in
-    let m = c.memory.ensures in
-    let b = c.buffer.ensures in
-    let f = c.fresh-store.ensures.memory in
-    let o = c.over-image.ensures in
-    let s = c.in_ok-from_slice.ensures.items in
-    cc
+    let kept = same_length c.fresh-store.result.memory.buffer.items c.loop-group.store.memory.buffer.items far.reached.size far.untouched in
+    let bytes = length_is c.args.table.now c.buffer.result.now (ap length (c.buffer.ensures ∙ ap (λ m. m.buffer.items) c.memory.ensures) ∙ kept) (ap (λ m. m.buffer.items) c.fresh-store.ensures.memory ∙ c.copy_of.ensures) in
+    omega (arith, bytes, c.min-used.ensures, length-take c.min-used.result c.args.table.now)
 
-pub returns-clause-made : goal.returns-clause-made
-returns-clause-made g c =
+pub returns : goal.returns
+returns g c =
     let l = c.loop-group in
     let far = l.invariant.far in
-    let bytes : c.min-bytes.result ≡ min (length c.args.table.now) 4096 = omega (arith, c.min-bytes.ensures) in
     let front_len = c.as_chunks.ensures.front_len in
     let room : c.min-room.result ≡ min (length c.args.calls.now / 4) (length c.args.answers.now / 4) = omega (arith, c.min-room.ensures, front_len) in
     let gs = groups_are c.args.calls.now c.args.answers.now c.as_chunks.result.0.now c.min-room.result c.as_chunks.ensures.front room in
@@ -47,18 +44,15 @@ returns-clause-made g c =
       | else-loop-group-test w ↦ none_from _ l.made l.group-index l.invariant.counted (omega arith)
       | then-loop-group-test+in_default w ↦ calls_from _ l.made l.group-index l.invariant.counted _ w.loop-group-test.true (sym w.in_default.is ∙ w.call_of.ensures)
     ] in
+    let rest = rest_is c.args.table.now c.min-used.result (omega (arith, c.min-used.ensures)) in
+    let in_place = c.copy_from_slice.ensures.after ∙ c.buffer.ensures ∙ ap (λ m. m.buffer.items) c.memory.ensures in
     record {
-      memory = c.over-image.result;
+      memory = c.copy_of.result;
       store = l.store;
       turns = turns_of far.history;
-      lent = ap (λ v. v.items) c.over-image.ensures ∙ c.in_ok-from_slice.ensures.items ∙ lent_is c.args.table.now c.min-bytes.result bytes;
+      lent = c.copy_of.ensures;
       kept = sofar_all _ _ _ _ _ _ _ l.made l.answers l.store far _ _ c.fresh-store.ensures.memory c.fresh-store.ensures.book none _ gs;
-      given_back =
-          let after = c.copy_from_slice.ensures.after in
-          let b = c.buffer.ensures in
-          let m = c.memory.ensures in
-          let rest = rest_is c.args.table.now c.min-bytes.result bytes in
-          cc;
+      given_back = λ i. in_place i ++ rest i;
       counted = far.many;
       answered = far.written;
     }

@@ -1,11 +1,10 @@
-use Rattle.std.proofs.lemmas.Result.{IfOk-weaker}
 use Rattle.store.proofs.Tokens.{tokens_shown}
 use Rattle.lent.proofs.replays.replay_marked.Goals as goal
 
-pub returns-clause-made : goal.returns-clause-made
-returns-clause-made g c =
-    IfOk-weaker c.replay.result _ _
-    (λ made done. record {
+pub returns : goal.returns
+returns g c =
+    let done = c.replay.ensures in
+    record {
       memory = done.memory;
       store = done.store;
       turns = done.turns;
@@ -17,5 +16,4 @@ returns-clause-made g c =
       given_back = done.given_back;
       counted = done.counted;
       answered = done.answered;
-    })
-    c.replay.ensures.made
+    }
