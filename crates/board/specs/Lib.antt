@@ -3,3 +3,4 @@ pub mod Logged
 pub mod Shown
 pub mod Tables
 pub mod Drawn
+pub mod Fresh

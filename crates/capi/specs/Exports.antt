@@ -2,18 +2,9 @@
 use Rattle.std.specs.Prelude.{◌≡◌, ℕ, Option, Some, None}
 use Rattle.fault.specs.Numbers.{place_of}
 use Rattle.fault.specs.declared.Fault.{Fault}
-use Rattle.book.specs.Picture.{fresh_picture}
-use Rattle.board.specs.Drawn.{drawn}
-use Rattle.board.specs.declared.BoardBook.{BoardBook}
 use Rattle.full.specs.Held.{held_in}
 use Rattle.full.specs.declared.table.FullBook.{FullBook}
 use Rattle.console.specs.declared.Ran.{Ran}
-
--- P of a board book in which no token is taken
-pub record OnFreshBoard (P : BoardBook → Type 0) : Type 0 where
-  pub book : BoardBook
-  pub fresh : drawn book.ledger ≡ fresh_picture
-  pub promised : P book
 
 -- P of a full book in which nothing is held
 pub record OnFreshFull (P : FullBook → Type 0) : Type 0 where

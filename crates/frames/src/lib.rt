@@ -6,7 +6,7 @@ ghost use Rattle.frames.specs.Frames.{copied, count_of, unpacked_answer, unpacke
 ghost use Rattle.memory.specs.Buffers.{plain_words};
 
 use fault::Fault;
-use memory::{ImageArray, MOST_BYTES, MOST_WORDS, Memory, PlainArray, Window};
+use memory::{ImageArray, MOST_BYTES, MOST_WORDS, Memory, PlainArray, Window, front};
 
 /// Copies word by word, up to the end of the smaller memory, and answers how many words were copied.
 #[tactic(auto, using(crate::proofs::Copies::copying))]
@@ -72,7 +72,7 @@ pub fn unpack_input(input: &[u8]) -> Report
     ensures unpacked { result.unpacked ≡ unpacked_answer (take 4096 input.now) (replicate 512 0) }
     ensures full { IsTrue result.full ↔ (4096 ≤ length input.now) }
 {
-    let read = &input[..input.len().min(MOST_BYTES)];
+    let read = front(input, MOST_BYTES);
     let (table, unpacked) = unpack(read, PlainArray::filled(0)).unwrap();
     Report {
         table,

@@ -1,6 +1,6 @@
 //! Byte image: each item of the buffer is a byte, and each word stands in eight of them, the most significant first.
 ghost use Rattle.std.proofs.Common.{lit<};
-ghost use Rattle.std.specs.Prelude.{◌≡◌, take};
+ghost use Rattle.std.specs.Prelude.{◌≡◌, ◌≤◌, length, take};
 ghost use Rattle.memory.specs.Buffers.{image_words, image_beyond, image_after};
 ghost use Rattle.memory.specs.Images.{length-image, image_words-after, image_beyond-after, image_after-past};
 
@@ -16,14 +16,20 @@ pub type Image = Buffer<Vec<u8>>;
 /// Over an array of at most N bytes, which allocates nothing.
 pub type ImageArray<const N: usize> = Buffer<ArrayVec<u8, N>>;
 
+/// The bytes up to a limit: the first `limit`, or all of them where there are fewer.
+pub fn front(bytes: &[u8], limit: usize) -> &[u8]
+    ensures value { result.now ≡ take limit bytes.now }
+    ensures fits { length result.now ≤ limit }
+{
+    &bytes[..bytes.len().min(limit)]
+}
+
 impl ImageArray<MOST_BYTES> {
     /// Over a copy of the bytes, or of the first 4,096 where there are more: those are all that a memory can use.
-    #[tactic(auto, using(crate::proofs::Lent::used_is))]
     pub fn copy_of(bytes: &[u8]) -> Self
         ensures { result.buffer.items ≡ take 4096 bytes.now }
     {
-        let used = &bytes[..bytes.len().min(MOST_BYTES)];
-        Buffer::over(ArrayVec::try_from(used).unwrap())
+        Buffer::over(ArrayVec::try_from(front(bytes, MOST_BYTES)).unwrap())
     }
 }
 

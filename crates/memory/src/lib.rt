@@ -12,7 +12,7 @@ ghost use Rattle.memory.specs.Words.{Whole, read_answer, write_answer, address_f
 
 pub use buffer::Buffer;
 use fault::{Fault, Layer, Refusal};
-pub use image::{Image, ImageArray, MOST_BYTES};
+pub use image::{Image, ImageArray, MOST_BYTES, front};
 pub use plain::{MOST_WORDS, Plain, PlainArray};
 pub use window::Window;
 

@@ -44,7 +44,7 @@ returns g c =
       | else-loop-group-test w ↦ none_from _ l.made l.group-index l.invariant.counted (omega arith)
       | then-loop-group-test+in_default w ↦ calls_from _ l.made l.group-index l.invariant.counted _ w.loop-group-test.true (sym w.in_default.is ∙ w.call_of.ensures)
     ] in
-    let rest = rest_is c.args.table.now c.min-used.result (omega (arith, c.min-used.ensures)) in
+    let rest = rest_is 4096 c.args.table.now c.min-used.result (omega (arith, c.min-used.ensures)) in
     let in_place = c.copy_from_slice.ensures.after ∙ c.buffer.ensures ∙ ap (λ m. m.buffer.items) c.memory.ensures in
     record {
       memory = c.copy_of.result;
