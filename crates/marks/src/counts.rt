@@ -1,7 +1,7 @@
 //! Two kinds of token count. A debit is made by a mark alone, a credit as what a token log records.
 //! A debit is compared with a credit, and a release takes a credit off a debit; the types allow
-//! nothing else between them. The number that is read off either is an ordinary number, of which
-//! nobody outside this crate makes a count again.
+//! nothing else between them. The number that is read off either is an ordinary number, and no call
+//! outside this crate makes a count from one.
 ghost use Rattle.std.specs.Prelude.{◌≡◌, ◌-◌, ◌↔◌, IsTrue};
 ghost use Rattle.marks.specs.Counts.{sum_of};
 
