@@ -174,5 +174,5 @@ fn copy_debit(copy: Option<Mark>) -> Debit
     ensures value { result.tokens ≡ debit_in (state_in copy) }
     ensures limit { result.tokens ≤ 64 }
 {
-    copy.map_or(Debit::new(0), Mark::debit)
+    copy.map_or(Mark::untouched().debit(), Mark::debit)
 }

@@ -117,7 +117,7 @@ impl Ledger {
         let account = &mut accounts[thread.index()];
         let blocks = &mut self.blocks;
         blocks[block.index()].load(account.board, thread)?;
-        account.log.note(block, Credit::new(1));
+        account.log.note(block, Credit::one());
         Ok(())
     }
 
@@ -149,9 +149,7 @@ impl Ledger {
         if marks.store(thread, credit) {
             let accounts = &mut self.accounts;
             let account = &mut accounts[thread.index()];
-            account
-                .log
-                .note(block, Credit::new(TOKENS - credit.tokens()));
+            account.log.note(block, credit.rest());
             return Ok(());
         }
         Err(Take::Store.refused_by(self.other_holder(thread, block).unwrap()))

@@ -28,10 +28,10 @@ impl TokenLog {
     pub(crate) fn new() -> TokenLog
         ensures { records_in result ≡ [] }
     {
-        let filler = TokenRecord::new(check_block(0).unwrap(), Credit::new(1));
+        let filler = TokenRecord::new(check_block(0).unwrap(), Credit::one());
         TokenLog {
             records: Log::new(filler),
-            credits: [Credit::new(0); 64],
+            credits: [Credit::none(); 64],
         }
     }
 
@@ -92,7 +92,7 @@ fn relieve(blocks: &mut [Block; 64], credits: &mut [Credit; 64], log: &Log<Token
             let block = &mut blocks[place];
             block.gather();
             block.relieve(credit);
-            credits[place] = Credit::new(0);
+            credits[place] = Credit::none();
         }
     }
 }

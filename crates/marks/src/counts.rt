@@ -1,10 +1,11 @@
-//! Two kinds of token count. A debit and a credit may be compared, and release takes a credit off
-//! a debit; the types allow nothing else between them.
-ghost use Rattle.std.specs.Prelude.{◌≡◌, ◌-◌, ◌<◌, ◌↔◌, IsTrue, IsSomeAnd};
+//! Two kinds of token count. A debit is made by a mark alone, a credit as what a token log records.
+//! A debit is compared with a credit, and a release takes a credit off a debit; the types allow
+//! nothing else between them. The number that is read off either is an ordinary number, and no call
+//! outside this crate makes a count from one.
+ghost use Rattle.std.specs.Prelude.{◌≡◌, ◌-◌, ◌↔◌, IsTrue};
 ghost use Rattle.marks.specs.Counts.{sum_of};
-ghost use Rattle.std.specs.Ordering.{MatchOrdering};
 
-use std::cmp::Ordering;
+use crate::TOKENS;
 use std::marker::PhantomData;
 
 /// A count of tokens, on one side of a book.
@@ -29,7 +30,8 @@ pub type Debit = Count<Shown>;
 pub type Credit = Count<Logged>;
 
 impl<Side> Count<Side> {
-    pub fn new(tokens: u64) -> Self
+    /// For this crate alone: a mark makes debits by it, and the makers of a credit stand below.
+    pub(crate) fn new(tokens: u64) -> Self
         ensures { result.tokens ≡ tokens }
     {
         Count {
@@ -61,18 +63,40 @@ impl Debit {
         self.tokens == other.tokens
     }
 
-    /// How the debit compares with the credit: an Option, as PartialOrd answers, and never None.
-    /// A method, as equals is: `<`, like `==`, compares values of one type alone.
-    pub fn compares(&self, other: &Credit) -> Option<Ordering>
-        ensures { IsSomeAnd result (λ o. MatchOrdering o (self.now.tokens < other.now.tokens) (self.now.tokens ≡ other.now.tokens) (other.now.tokens < self.now.tokens)) }
-    {
-        self.tokens.partial_cmp(&other.tokens)
-    }
-
     /// The debit that is left when a thread releases its credit: 0 where the credit is larger.
     pub fn less(self, released: Credit) -> Debit
         ensures { result.tokens ≡ self.tokens - released.tokens }
     {
         Count::new(self.tokens.saturating_sub(released.tokens))
+    }
+}
+
+impl Credit {
+    /// No tokens.
+    pub fn none() -> Credit
+        ensures { result.tokens ≡ 0 }
+    {
+        Count::new(0)
+    }
+
+    /// The token that a load takes.
+    pub fn one() -> Credit
+        ensures { result.tokens ≡ 1 }
+    {
+        Count::new(1)
+    }
+
+    /// All tokens of a block, which a store needs.
+    pub fn all() -> Credit
+        ensures { result.tokens ≡ 64 }
+    {
+        Count::new(TOKENS)
+    }
+
+    /// What a store takes beside the credit that is there: 0 where that is above 64.
+    pub fn rest(self) -> Credit
+        ensures { result.tokens ≡ 64 - self.tokens }
+    {
+        Count::new(TOKENS.saturating_sub(self.tokens))
     }
 }

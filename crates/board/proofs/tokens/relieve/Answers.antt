@@ -59,9 +59,9 @@ each-preserved c =
           ∙ ap (λ s. relieved_by s log marks) more in
           let credits : (u : ℕ) → credits_in c.if-tokens-gt0.credits u ≡ left_by (map recorded (take (c.each.record-index + 1) items)) log u = λ u.
           ap (λ cs. credits_in cs u) w.credits-is
-          ∙ ap (λ f. f u) (at_set tokens_of c.each.credits i w.new.result 0 m)
-          ∙ ap (λ j. set_at (credits_in c.each.credits) j (tokens_of w.new.result) u) place
-          ∙ ap (λ z. set_at (credits_in c.each.credits) b z u) w.new.ensures
+          ∙ ap (λ f. f u) (at_set tokens_of c.each.credits i w.none.result 0 m)
+          ∙ ap (λ j. set_at (credits_in c.each.credits) j (tokens_of w.none.result) u) place
+          ∙ ap (λ z. set_at (credits_in c.each.credits) b z u) w.none.ensures
           ∙ ap (λ z. cond (eqb u b) 0 z) (c.each.invariant.2 u)
           ∙ left_now seen log b n u c.record-item.result.some
           ∙ ap (λ s. left_by s log u) more in

@@ -1,4 +1,4 @@
-use Rattle.std.proofs.Common.{◌≡◌, ◌-◌, ◌<◌, true, false, length, get_or, Err, sym, refl, ap, ◌∙◌, subst, rules, arith}
+use Rattle.std.proofs.Common.{◌≡◌, ◌<◌, true, false, length, get_or, Err, sym, refl, ap, ◌∙◌, subst, rules, arith}
 use Rattle.book.specs.Balance.{Balanced}
 use Rattle.book.specs.Holdings.{is_in_the_way}
 use Rattle.book.specs.Picture.{credit_of, holdings_of}
@@ -31,7 +31,7 @@ note-requires c =
     let here = log_at k.accounts t c.index-then-store.result c.index-accounts-index.result c.index-then-store.ensures.value l in
     let own : credit_of b (log_of (get_or k.accounts c.index-then-store.result c.index-accounts-index.result)) ≡ c.args.credit.tokens = ap (credit_of b) (sym here) ∙ sym c.requires.own in
     let short = c.requires.short in
-    let rest = c.new.ensures ∙ ap (λ n. 64 - n) c.tokens.ensures in
+    let rest = c.rest.ensures in
     record {
       room = rw here at w.room;
       some = search rules;
@@ -50,7 +50,7 @@ invariant_of-self c =
     let w = stores_in k c.args.thread c.args.block c.args.credit.tokens c.requires.own c.requires.short in
     let s : Storing k.blocks k.accounts t b _ c.gather.new.self c.store.new.self _ _ true = storing c.index.ensures.value m c.gather.ensures c.if-store.ensures.after c.if-store.ensures.answer c.requires.own in
     let a : Account = record { board = (get_or k.accounts i e).board; log = c.note.new.self } in
-    let after = store_granted_drawn a e s c.index-then-store.ensures.value l refl (c.new.ensures ∙ ap (λ n. 64 - n) c.tokens.ensures) refl c.note.ensures in
+    let after = store_granted_drawn a e s c.index-then-store.ensures.value l refl c.rest.ensures refl c.note.ensures in
     record { balanced = ∣ subst Balanced (sym after) w.kept ∣₁ }
 
 pub returns-then-store : goal.returns-then-store
@@ -67,7 +67,7 @@ returns-then-store c =
     let a : Account = record { board = (get_or k.accounts i e).board; log = c.note.new.self } in
     record {
       answer = w.grants (store_own s);
-      after = store_granted_drawn a e s c.index-then-store.ensures.value l refl (c.new.ensures ∙ ap (λ n. 64 - n) c.tokens.ensures) refl c.note.ensures;
+      after = store_granted_drawn a e s c.index-then-store.ensures.value l refl c.rest.ensures refl c.note.ensures;
     }
 
 pub invariant_of-self-else-store : goal.invariant_of-self-else-store

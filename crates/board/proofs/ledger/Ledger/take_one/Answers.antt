@@ -58,7 +58,7 @@ note-requires c =
     let l : c.index.result < length k.accounts = search rules in
     let here = log_at k.accounts t c.index.result c.index-accounts-index.result c.index.ensures.value l in
     let none : credit_of b (log_of (get_or k.accounts c.index.result c.index-accounts-index.result)) ≡ 0 = ap (credit_of b) (sym here) ∙ c.requires in
-    let one = c.new.ensures in
+    let one = c.one.ensures in
     record {
       room = rw here at (loads_in k c.args.thread c.args.block c.requires).room;
       some = search rules;
@@ -74,7 +74,7 @@ invariant_of-self-2 c =
     let m : c.index-2.result < length k.blocks = search rules in
     let w : Loading k.blocks k.accounts t b _ _ _ _ _ = loading c.index.ensures.value l c.index-2.ensures.value m c.load.ensures.after in
     let a : Account = record { board = (get_or k.accounts c.index.result c.index-accounts-index.result).board; log = c.note.new.self } in
-    let after = load_granted_drawn a w (sym c.load.ensures.answer ∙ c.in_ok-load.was) refl c.new.ensures refl c.note.ensures in
+    let after = load_granted_drawn a w (sym c.load.ensures.answer ∙ c.in_ok-load.was) refl c.one.ensures refl c.note.ensures in
     record { balanced = ∣ subst Balanced (sym after) (loads_in k c.args.thread c.args.block c.requires).kept ∣₁ }
 
 pub returns : goal.returns
@@ -91,5 +91,5 @@ returns c =
     let answered : load_answer (copy_or_split (marks_of (get_or k.blocks c.index-2.result c.index-blocks-index.result)) (seat_of (get_or k.accounts c.index.result c.index-accounts-index.result))) ≡ Ok c.in_ok-load.field-0 = sym c.load.ensures.answer ∙ c.in_ok-load.was in
     record {
       answer = sym answered ∙ (rw (here, sits) at (loads_in k c.args.thread c.args.block c.requires).answer);
-      after = load_granted_drawn a w answered refl c.new.ensures refl c.note.ensures;
+      after = load_granted_drawn a w answered refl c.one.ensures refl c.note.ensures;
     }

@@ -6,5 +6,5 @@ use Rattle.board.proofs.tokens.TokenLog.new.Goals as goal
 
 pub invariant_of-result : goal.invariant_of-result
 invariant_of-result c =
-    let none : ◌≡◌ {A = ℕ → ℕ} (credits_in (replicate 64 c.new-3.result)) (λ b. 0) = at_replicate tokens_of 64 c.new-3.result 0 c.new-3.ensures in
-    record { added_up = λ b. ap (λ f. f b) none ∙ sym (ap (λ rs. credit_of b (map recorded rs)) c.new-2.ensures) }
+    let none : ◌≡◌ {A = ℕ → ℕ} (credits_in (replicate 64 c.none.result)) (λ b. 0) = at_replicate tokens_of 64 c.none.result 0 c.none.ensures in
+    record { added_up = λ b. ap (λ f. f b) none ∙ sym (ap (λ rs. credit_of b (map recorded rs)) c.new.ensures) }
