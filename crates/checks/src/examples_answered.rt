@@ -3,11 +3,10 @@ use crate::found::same;
 use examples::{Ended, worked_examples};
 use fault::{Layer, Refusal};
 use marks::{Mark, Metastate};
-use std::test::Fail;
 
 #[test]
-fn examples_of_marks(rt: HostRuntime) -> Result<(), Fail> {
-    let made = worked_examples(rt.alloc())?;
+fn examples_of_marks(rt: HostRuntime) {
+    let made = worked_examples();
     let apart = Err(Layer::Marks.refuses(Refusal::MarksApart(64)));
     for (case, fused, state) in [
         (
@@ -42,12 +41,11 @@ fn examples_of_marks(rt: HostRuntime) -> Result<(), Fail> {
     }
     same(&rt, "a reader's code", made.reader_code, 16387);
     same(&rt, "a writer's code", made.writer_code, 32771);
-    Ok(())
 }
 
 #[test]
-fn examples_of_jobs(rt: HostRuntime) -> Result<(), Fail> {
-    let made = worked_examples(rt.alloc())?;
+fn examples_of_jobs(rt: HostRuntime) {
+    let made = worked_examples();
     for (case, ended, figure, word) in [
         ("aborted, board book", made.aborted_on_board, 1, 10),
         ("aborted, full book", made.aborted_on_full, 1, 10),
@@ -57,7 +55,6 @@ fn examples_of_jobs(rt: HostRuntime) -> Result<(), Fail> {
         let answer = (1, figure);
         same(&rt, case, ended, Ok(Ended { answer, word }));
     }
-    Ok(())
 }
 
 #[test]

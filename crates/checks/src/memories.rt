@@ -105,20 +105,21 @@ fn a_window_in_a_window(rt: HostRuntime) -> Result<(), Fail> {
 
 #[test]
 fn reports_of_any_length(rt: HostRuntime) -> Result<(), Fail> {
-    for (bytes, blocks, words, trailing) in [
-        (0usize, 0u64, 0u64, 0u64),
-        (5, 0, 0, 5),
-        (64, 1, 8, 0),
-        (130, 2, 16, 2),
-        (4096, 64, 512, 0),
+    for (bytes, blocks, words, trailing, full) in [
+        (0usize, 0u64, 0u64, 0u64, false),
+        (5, 0, 0, 5, false),
+        (64, 1, 8, 0, false),
+        (130, 2, 16, 2, false),
+        (4095, 63, 504, 63, false),
+        (4096, 64, 512, 0, true),
+        (4100, 64, 512, 0, true),
     ] {
-        let report = Image::over(vec![in rt.alloc(); 1; bytes]?);
-        let table = Plain::over(vec![in rt.alloc(); 0; 512]?);
-        let (table, done) = frames::unpack(&report, table)?;
-        let found = (done.blocks, done.words, done.trailing);
-        assert_eq!(rt; found, (blocks, words, trailing));
+        let report = frames::unpack_input(&vec![in rt.alloc(); 1; bytes]?);
+        let done = report.unpacked;
+        let found = (done.blocks, done.words, done.trailing, report.full);
+        assert_eq!(rt; found, (blocks, words, trailing, full));
         let first = if blocks > 0 { 0x0101_0101_0101_0101 } else { 0 };
-        same(&rt, "first word", table.read(0), Ok(first));
+        same(&rt, "first word", report.table.read(0), Ok(first));
     }
     Ok(())
 }

@@ -1,6 +1,7 @@
 -- Two jobs, each alone on a fresh store over eight plain words that are all 10: their calls, each with its answer, the
 -- newest first, and the word that the job stored to, afterwards.
-use Rattle.std.specs.Prelude.{◌≡◌, ℕ, List, [], ◌∷◌, replicate, vec_items, Ok, Result, slice_index}
+use Rattle.std.specs.Prelude.{◌≡◌, ℕ, List, [], ◌∷◌, replicate, Ok, Result, slice_index}
+use Rattle.arrayvec.specs.ArrayVec.{ArrayVec}
 use Rattle.fault.specs.declared.Fault.{Fault}
 use Rattle.memory.specs.Buffers.{plain_words}
 use Rattle.memory.specs.declared.buffer.Buffer.{Buffer}
@@ -19,8 +20,8 @@ use Rattle.store.specs.declared.Store.{Store as TheStore}
 use Rattle.examples.specs.declared.jobs.Ended.{Ended}
 
 -- the words of a plain memory
-abbrev pub plain : Buffer ℕ → List ℕ
-plain memory = plain_words (vec_items memory.buffer)
+abbrev pub plain : Buffer (ArrayVec ℕ) → List ℕ
+plain memory = plain_words memory.buffer.items
 
 abbrev pub tens : List ℕ
 tens = replicate 8 10

@@ -2,7 +2,7 @@
 //! is put back, and the figures of the two books for the same job.
 #![tactic(auto)]
 
-ghost use Rattle.std.specs.Prelude.{◌≡◌, true, IfOk};
+ghost use Rattle.std.specs.Prelude.{◌≡◌, true};
 ghost use Rattle.examples.specs.Jobs.{plain, tens};
 ghost use Rattle.examples.specs.Examples.{MarksWorked, JobsWorked};
 ghost use Rattle.marks.specs.Codes.{code_of};
@@ -17,8 +17,7 @@ use full::FullBook;
 pub use jobs::Ended;
 use jobs::{abort_two_stores, commit_load_and_store};
 use marks::{Mark, Metastate};
-use memory::Plain;
-use std::alloc::{AllocError, Global};
+use memory::PlainArray;
 
 /// What the calls answered, example by example.
 #[derive(Clone, Copy, PartialEq, Eq, Debug)]
@@ -68,18 +67,18 @@ fn code(state: Metastate) -> u64
 }
 
 /// One block of plain words, each 10.
-fn one_block(alloc: Global) -> Result<Plain, AllocError>
-    ensures { IfOk result (λ memory. plain memory ≡ tens) }
+fn one_block() -> PlainArray<8>
+    ensures { plain result ≡ tens }
 {
-    Ok(Plain::over(vec![in alloc; 10; 8]?))
+    PlainArray::filled(10)
 }
 
-/// Makes the calls of all examples. Memory for the words is all that may be lacking.
-pub fn worked_examples(alloc: Global) -> Result<WorkedExamples, AllocError>
-    ensures marks { IfOk result MarksWorked }
-    ensures jobs { IfOk result JobsWorked }
+/// Makes the calls of all examples.
+pub fn worked_examples() -> WorkedExamples
+    ensures marks { MarksWorked result }
+    ensures jobs { JobsWorked result }
 {
-    Ok(WorkedExamples {
+    WorkedExamples {
         reader_kept: fused(Metastate::Reader(3), Metastate::Anonymous(0)),
         readers_counted: fused(Metastate::Reader(3), Metastate::Reader(5)),
         reader_added: fused(Metastate::Anonymous(2), Metastate::Reader(5)),
@@ -89,9 +88,9 @@ pub fn worked_examples(alloc: Global) -> Result<WorkedExamples, AllocError>
         too_many_readers: fused(Metastate::Anonymous(40), Metastate::Anonymous(24)),
         reader_code: code(Metastate::Reader(3)),
         writer_code: code(Metastate::Writer(3)),
-        aborted_on_board: abort_two_stores(one_block(alloc)?, BoardBook::new()),
-        aborted_on_full: abort_two_stores(one_block(alloc)?, FullBook::new()),
-        committed_on_board: commit_load_and_store(one_block(alloc)?, BoardBook::new()),
-        committed_on_full: commit_load_and_store(one_block(alloc)?, FullBook::new()),
-    })
+        aborted_on_board: abort_two_stores(one_block(), BoardBook::new()),
+        aborted_on_full: abort_two_stores(one_block(), FullBook::new()),
+        committed_on_board: commit_load_and_store(one_block(), BoardBook::new()),
+        committed_on_full: commit_load_and_store(one_block(), FullBook::new()),
+    }
 }

@@ -1,5 +1,5 @@
 //! Mirror: two memories that hold the same words.
-ghost use Rattle.std.specs.Prelude.{◌≡◌, ◌++◌, ◌==◌, length, is_ok, IfOk, IfErr, slice_set};
+ghost use Rattle.std.specs.Prelude.{◌≡◌, ◌++◌, ◌==◌, length, is_ok, IfOk, IfErr, OnErr, slice_set};
 ghost use Rattle.memory.specs.Words.{write_answer};
 
 use fault::Fault;
@@ -74,9 +74,11 @@ impl<A: Memory, B: Memory> Memory for Mirror<A, B> {
         ensures after { A.Memory.words self.new.first ≡ slice_set (A.Memory.words self.old.first) address word }
         ensures second { B.Memory.words self.new.second ≡ slice_set (A.Memory.words self.old.first) address word }
         ensures beyond { A.Memory.beyond self.new.first ++ B.Memory.beyond self.new.second ≡ A.Memory.beyond self.old.first ++ B.Memory.beyond self.old.second }
+        ensures refused { OnErr result (self.new ≡ self.old) }
     {
-        let answer = self.first.write(address, word);
-        self.second.write(address, word)?;
-        answer
+        // asked first, so that a refusal leaves both as they are: the sizes agree, and no write below is refused
+        self.read(address)?;
+        self.first.write(address, word)?;
+        self.second.write(address, word)
     }
 }

@@ -1,15 +1,34 @@
-//! Unpacks a buoy report: reads its frames from standard input, and prints the words of each and what was done.
+//! Unpacks a buoy report: reads its frames from standard input, and prints the words of each and what was done. Where
+//! more may follow than it reads, it says so on standard error and ends with status 1.
 #![tactic(auto)]
 
-use frames::Unpacked;
-use memory::{Image, Plain};
-use std::io;
+use frames::{Report, unpack_input};
+use memory::MOST_BYTES;
 use std::io::Read;
+use std::process::ExitCode;
+use std::{fmt, io};
 
-/// the most bytes that are read, and the words of a whole table
-const REPORT_BYTES: u64 = 4096;
+/// Why a run ends with status 1.
+#[derive(Debug, Drop)]
+enum Shortfall {
+    /// as much was read as is read at most
+    InputFull,
+    Reading(io::Error),
+    Writing(io::Error),
+}
 
-const TABLE_WORDS: usize = 512;
+impl fmt::Display for Shortfall {
+    fn fmt<W: fmt::Write>(&self, f: &mut fmt::Formatter<W>) -> fmt::Result {
+        match self {
+            Shortfall::InputFull => {
+                write!(f, "{MOST_BYTES} bytes were read, which is the most: ")?;
+                write!(f, "what may follow was not read")
+            }
+            Shortfall::Reading(error) => write!(f, "reading standard input: {error}"),
+            Shortfall::Writing(error) => write!(f, "writing standard output: {error}"),
+        }
+    }
+}
 
 fn print_block(rt: &HostRuntime, number: u64, block: &[u64]) -> io::Result<()> {
     print!(rt; "block {number}:")?;
@@ -19,26 +38,34 @@ fn print_block(rt: &HostRuntime, number: u64, block: &[u64]) -> io::Result<()> {
     println!(rt; "")
 }
 
-fn print_unpacked(rt: &HostRuntime, table: &Plain, done: Unpacked) -> io::Result<()> {
-    let Unpacked {
-        blocks,
-        words,
-        trailing,
-    } = done;
-    for (number, block) in (0..blocks).zip(table.buffer().chunks(8)) {
+fn print_report(rt: &HostRuntime, report: &Report) -> io::Result<()> {
+    let done = report.unpacked;
+    for (number, block) in (0..done.blocks).zip(report.table.buffer().chunks(8)) {
         print_block(rt, number, block)?;
     }
-    println!(rt; "unpacked {blocks} blocks, {words} words; {trailing} trailing bytes left over")
+    print!(rt; "unpacked {} blocks, {} words; ", done.blocks, done.words)?;
+    println!(rt; "{} trailing bytes left over", done.trailing)
 }
 
-fn main(rt: HostRuntime) -> io::Result<()> {
+fn work(rt: &HostRuntime) -> Result<(), Shortfall> {
     let mut bytes = Vec::new(rt.alloc());
-    rt.stdin().take(REPORT_BYTES).read_to_end(&mut bytes)?;
-    let report = Image::over(bytes);
-    let table = Plain::over(vec![in rt.alloc(); 0; TABLE_WORDS]?);
-    match frames::unpack(&report, table) {
-        Ok((table, done)) => print_unpacked(&rt, &table, done),
-        // the refusal by its name, in place of the fault's own text of numbers
-        Err(fault) => println!(rt; "refused: {fault:?}"),
+    let mut limited = rt.stdin().take(MOST_BYTES as u64);
+    limited.read_to_end(&mut bytes).map_err(Shortfall::Reading)?;
+    let report = unpack_input(&bytes);
+    print_report(rt, &report).map_err(Shortfall::Writing)?;
+    if report.full {
+        return Err(Shortfall::InputFull);
+    }
+    Ok(())
+}
+
+fn main(rt: HostRuntime) -> ExitCode {
+    match work(&rt) {
+        Ok(()) => ExitCode::SUCCESS,
+        Err(shortfall) => {
+            // where not even this can be written, the status tells
+            let _ = eprintln!(rt; "unpack: {shortfall}");
+            ExitCode::FAILURE
+        }
     }
 }
