@@ -3,15 +3,13 @@
 #![tactic(auto)]
 
 ghost use Rattle.std.specs.Prelude.{Some, ◌≡◌, ◌+◌, ◌*◌, ◌^◌, ◌<◌, ◌≤◌, ◌↔◌, ℕ, IsTrue};
-ghost use Rattle.figures.specs.Figures.{counted, energy, weighted, IsRoot, IsGood};
+ghost use Rattle.figures.specs.Figures.{counted, energy, frequencies, weighted, IsRoot, IsGood};
 ghost use Rattle.figures.specs.Texts.{text_of_reading, text_of_quality};
 
 use std::fmt;
 
 /// A band's energy counts at most this much (square millimetres), so that no sum or product below overflows.
 const MOST_ENERGY: u64 = 1_000_000;
-/// where the bands lie, in mHz
-const FREQUENCIES: [u16; 6] = [50, 100, 150, 200, 250, 300];
 /// the greatest plausible height, in millimetres
 const MOST_HEIGHT: u64 = 30_000;
 /// the least plausible period, in milliseconds
@@ -57,6 +55,13 @@ fn energy_of(bands: &[u64; 6]) -> u64
     bands.iter().map(|band| counted_of(*band)).sum()
 }
 
+/// Where the bands lie, in mHz.
+fn band_frequencies() -> [u16; 6]
+    ensures { result ≡ frequencies }
+{
+    [50, 100, 150, 200, 250, 300]
+}
+
 /// What counts of a band, times the square of its frequency.
 fn weighted_band(band: u64, frequency: u16) -> u64
     ensures { result ≡ counted band * (frequency * frequency) }
@@ -70,7 +75,7 @@ fn weighted_of(bands: &[u64; 6]) -> u64
 {
     bands
         .iter()
-        .zip(FREQUENCIES.iter())
+        .zip(band_frequencies().iter())
         .map(|(band, frequency)| weighted_band(*band, *frequency))
         .sum()
 }
