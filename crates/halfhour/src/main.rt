@@ -3,17 +3,18 @@
 #![tactic(auto)]
 
 mod access;
-mod figures;
 mod steps;
 
 use access::{Alone, Station, in_job};
 use board::BoardBook;
 use fault::Fault;
+use figures::{Figure, Quality, Reading};
 use memory::Plain;
-use std::io;
-use steps::{Figure, Reading};
+use std::{fmt, io};
 use store::Store;
 
+/// the thread that reads back what stands in the table
+const READER: u64 = 5;
 /// half hour 1: its number, six bands of the spectrum, a spare word
 const FRAME_WORDS: [u64; 8] = [1, 1200, 9800, 21000, 7400, 1500, 300, 0];
 /// what arrives while the record is written
@@ -28,13 +29,14 @@ const NEXT: Reading = Reading {
     },
 };
 
-/// How the four steps went, and another job's offer of the next half hour in the midst of the fourth: none is made where
-/// the fourth step's job is not even begun.
+/// How the four steps went, the verdict as a job of its own read it back after the third, and another job's offer of the
+/// next half hour in the midst of the fourth: none is made where the fourth step's job is not even begun.
 #[derive(Clone, Copy)]
 struct Outcomes {
     unpacked: Result<(), Fault>,
     fitted: Result<(), Fault>,
     checked: Result<(), Fault>,
+    quality: Result<Quality, Fault>,
     offered: Option<Result<(), Fault>>,
     record: Result<Reading, Fault>,
 }
@@ -46,6 +48,7 @@ fn each_step_a_job(station: &mut Station) -> Outcomes {
     });
     let fitted = in_job(station, 1, steps::fit);
     let checked = in_job(station, 2, steps::check_quality);
+    let quality = in_job(station, READER, steps::load_quality);
     let mut offered = None;
     let record = in_job(station, 3, |station, job| {
         steps::write_record(station, job, |station| {
@@ -56,6 +59,7 @@ fn each_step_a_job(station: &mut Station) -> Outcomes {
         unpacked,
         fitted,
         checked,
+        quality,
         offered,
         record,
     }
@@ -66,6 +70,7 @@ fn each_access_a_job(station: &mut Station) -> Outcomes {
     let unpacked = steps::unpack(station, &Alone(0), &FRAME_WORDS);
     let fitted = steps::fit(station, &Alone(1));
     let checked = steps::check_quality(station, &Alone(2));
+    let quality = in_job(station, READER, steps::load_quality);
     let mut offered = None;
     let record = steps::write_record(station, &Alone(3), |station| {
         offered = Some(steps::offer(station, 4, NEXT))
@@ -74,18 +79,14 @@ fn each_access_a_job(station: &mut Station) -> Outcomes {
         unpacked,
         fitted,
         checked,
+        quality,
         offered,
         record,
     }
 }
 
-/// A refused step names the thread in words, in place of the fault's own text.
 fn print_refused(rt: &HostRuntime, what: &str, fault: Fault) -> io::Result<()> {
-    println!(rt;
-        "{what}: refused by {} (thread {}), aborted",
-        fault.number(),
-        fault.place()
-    )
+    println!(rt; "{what}: refused, {fault}, aborted")
 }
 
 fn print_step(rt: &HostRuntime, what: &str, work: Result<(), Fault>) -> io::Result<()> {
@@ -95,9 +96,13 @@ fn print_step(rt: &HostRuntime, what: &str, work: Result<(), Fault>) -> io::Resu
     }
 }
 
-fn print_record(rt: &HostRuntime, what: &str, record: Result<Reading, Fault>) -> io::Result<()> {
-    match record {
-        Ok(reading) => println!(rt; "{what}: {reading}"),
+fn print_read<T: fmt::Display + Drop>(
+    rt: &HostRuntime,
+    what: &str,
+    read: Result<T, Fault>,
+) -> io::Result<()> {
+    match read {
+        Ok(read) => println!(rt; "{what}: {read}"),
         Err(fault) => print_refused(rt, what, fault),
     }
 }
@@ -106,16 +111,26 @@ fn print_outcomes(rt: &HostRuntime, outcomes: Outcomes) -> io::Result<()> {
     print_step(rt, "thread 0 unpacks the frame", outcomes.unpacked)?;
     print_step(rt, "thread 1 fits height and period", outcomes.fitted)?;
     print_step(rt, "thread 2 checks their quality", outcomes.checked)?;
+    print_read(rt, "thread 5 reads the quality", outcomes.quality)?;
     if let Some(offered) = outcomes.offered {
         print_step(rt, "thread 4 offers half hour 2", offered)?;
     }
-    print_record(rt, "outgoing record", outcomes.record)
+    print_read(rt, "outgoing record", outcomes.record)
 }
 
-/// The outgoing record as it was written, read back in a job.
+/// The outgoing record as it was written, read back in a job, and the verdict on that record.
 fn print_written(rt: &HostRuntime, station: &mut Station) -> io::Result<()> {
-    let record = in_job(station, 5, steps::load_record);
-    print_record(rt, "thread 5 reads the outgoing record", record)
+    let record = in_job(station, READER, steps::load_record);
+    print_read(rt, "thread 5 reads the outgoing record", record)?;
+    if let Ok(reading) = record {
+        let verdict = if reading.quality().good {
+            "good"
+        } else {
+            "not good"
+        };
+        println!(rt; "checked again, that record is {verdict}")?;
+    }
+    Ok(())
 }
 
 fn main(rt: HostRuntime) -> io::Result<()> {

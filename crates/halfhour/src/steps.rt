@@ -1,8 +1,7 @@
 //! The four steps on one report, each written once for any way to reach the words, and another job's offer.
 use crate::access::{Access, Station, in_job};
-use crate::figures;
 use fault::Fault;
-use std::fmt;
+use figures::{Figure, Quality, Reading};
 
 /// where the steps keep their words: each place has a block of its own
 const FRAME: u64 = 0;
@@ -14,28 +13,6 @@ const PERIOD: u64 = 16;
 const QUALITY: u64 = 24;
 
 const RECORD: u64 = 32;
-
-/// A figure with the number of its half hour beside it.
-#[derive(Clone, Copy)]
-pub struct Figure {
-    pub hour: u64,
-    pub value: u64,
-}
-
-/// Both figures of a report.
-#[derive(Clone, Copy)]
-pub struct Reading {
-    pub height: Figure,
-    pub period: Figure,
-}
-
-impl fmt::Display for Reading {
-    fn fmt<W: fmt::Write>(&self, f: &mut fmt::Formatter<W>) -> fmt::Result {
-        let Reading { height, period } = self;
-        write!(f, "half hour {} height {} mm, ", height.hour, height.value)?;
-        write!(f, "half hour {} period {} ms", period.hour, period.value)
-    }
-}
 
 fn load_figure<A: Access>(station: &mut Station, access: &A, place: u64) -> Result<Figure, Fault> {
     let hour = access.load(station, place)?;
@@ -107,17 +84,23 @@ pub(crate) fn fit<A: Access>(station: &mut Station, access: &A) -> Result<(), Fa
     store_reading(station, access, HEIGHT, PERIOD, Reading { height, period })
 }
 
-/// Third step: 1 beside the half hour where both figures belong together and are plausible, else 0.
+/// Third step: 1 beside the half hour where the verdict on both figures is good, else 0.
 pub(crate) fn check_quality<A: Access>(station: &mut Station, access: &A) -> Result<(), Fault> {
-    let Reading { height, period } = load_reading(station, access, HEIGHT, PERIOD)?;
-    let good = height.hour == period.hour
-        && height.value <= 30_000
-        && (1_000..=30_000).contains(&period.value);
+    let Quality { hour, good } = load_reading(station, access, HEIGHT, PERIOD)?.quality();
     let verdict = Figure {
-        hour: height.hour,
+        hour,
         value: good as u64,
     };
     store_figure(station, access, QUALITY, verdict)
+}
+
+/// The verdict as it stands in the table.
+pub(crate) fn load_quality<A: Access>(station: &mut Station, access: &A) -> Result<Quality, Fault> {
+    let Figure { hour, value } = load_figure(station, access, QUALITY)?;
+    Ok(Quality {
+        hour,
+        good: value == 1,
+    })
 }
 
 /// Fourth step: reads both figures and writes the outgoing record. What comes between the two comes even if the height

@@ -15,9 +15,8 @@ fn print_marks(rt: &HostRuntime, book: &BoardBook) -> io::Result<()> {
     Ok(())
 }
 
-/// The book alone refuses here, so the layer's letter of the fault's own text is left out.
 fn print_refused(rt: &HostRuntime, what: &str, fault: Fault) -> io::Result<()> {
-    println!(rt; "{what}: refused, {} {}", fault.number(), fault.place())
+    println!(rt; "{what}: refused, {fault}")
 }
 
 fn print_answer(rt: &HostRuntime, what: &str, answer: Result<(), Fault>) -> io::Result<()> {
