@@ -9,4 +9,5 @@ pub below_next_square : (n w root : ℕ) → 0 < w → n / w < (root + 1) * (roo
 below_next_square n w root above next = below_times (lt-div-mul-add above) next
   where
     below_times : {q s : ℕ} → n < q * w + w → q < s → n < s * w
-    below_times {q} {s} small less = omega (arith, mul-le (q + 1) w s w (omega (arith, less)) (omega arith))
+    below_times {q} {s} small less =
+        omega (arith, mul-le (q + 1) w s w (omega (arith, less)) (omega arith))

@@ -1,5 +1,5 @@
-//! The figures of a half hour, in whole numbers: wave height and mean period from the six bands of a spectrum, and the
-//! verdict on both.
+//! The figures of a half hour, in whole numbers: wave height and mean period from the six bands of
+//! a spectrum, and the verdict on both.
 #![tactic(auto)]
 
 ghost use Rattle.std.specs.Prelude.{Some, ◌≡◌, ◌+◌, ◌*◌, ◌^◌, ◌<◌, ◌≤◌, ◌↔◌, ℕ, IsTrue};
@@ -8,7 +8,7 @@ ghost use Rattle.figures.specs.Texts.{text_of_reading, text_of_quality};
 
 use std::fmt;
 
-/// A band's energy counts at most this much (square millimetres), so that no sum or product below overflows.
+/// A band's energy counts at most this much (square millimetres), so that nothing below overflows.
 const MOST_ENERGY: u64 = 1_000_000;
 /// the greatest plausible height, in millimetres
 const MOST_HEIGHT: u64 = 30_000;

@@ -19,9 +19,10 @@ use store::Store;
 
 /// The job that its thread began, until a commit or an abort spends it.
 ///
-/// It names a thread and not a store: ending it on another store ends that store's job of that thread.
-// Never derive `Drop`, `Clone` or `Copy` here, and keep the field private: the proofs would pass all the same, and a
-// caller could let a job go, or end it twice.
+/// It names a thread and not a store: ending it on another store ends that store's job of that
+/// thread.
+// Never derive `Drop`, `Clone` or `Copy` here, and keep the field private: the proofs would pass
+// all the same, and a caller could let a job go, or end it twice.
 #[must_use = "a job that is held has to be ended by `commit` or `abort`"]
 pub struct HeldJob {
     thread: u64,
