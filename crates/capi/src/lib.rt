@@ -33,11 +33,7 @@ fn line_of(stopped: Option<Fault>) -> u64
 
 /// Makes calls on the board book over the blocks of a table: how many were made.
 #[unsafe(no_mangle)]
-pub extern "C" fn shore_replay_board(
-    table: &mut [u8],
-    calls: &[u64],
-    answers: &mut [u64],
-) -> usize
+pub extern "C" fn shore_replay_board(table: &mut [u8], calls: &[u64], answers: &mut [u64]) -> usize
     ensures { OnFreshBoard (λ book.
         MadeMarked ⟦<BoardBook as Book>⟧.holding ⟦<BoardBook as Book>⟧.moves ⟦<BoardBook as Marked>⟧.picture
         book table.old calls.now answers.old table.new answers.new result) }
@@ -47,11 +43,7 @@ pub extern "C" fn shore_replay_board(
 
 /// The same on the full book.
 #[unsafe(no_mangle)]
-pub extern "C" fn shore_replay_full(
-    table: &mut [u8],
-    calls: &[u64],
-    answers: &mut [u64],
-) -> usize
+pub extern "C" fn shore_replay_full(table: &mut [u8], calls: &[u64], answers: &mut [u64]) -> usize
     ensures { OnFreshFull (λ book.
         MadeReplayed ⟦<FullBook as Book>⟧.holding ⟦<FullBook as Book>⟧.moves
         book table.old calls.now answers.old table.new answers.new result) }

@@ -1,10 +1,10 @@
 -- Frames copied through a window over the table: what the table holds then.
-use Rattle.std.proofs.Common.{◌≡◌, ℕ, ◌+◌, ◌*◌, ◌/◌, min, List, ◌++◌, length, take, drop, sym, ap, ◌∙◌, append-nil, arith}
+use Rattle.std.proofs.Common.{◌≡◌, ℕ, ◌+◌, ◌*◌, List, ◌++◌, length, take, drop, sym, ap, ◌∙◌, append-nil, arith}
 use Rattle.std.proofs.lemmas.List.{drop_all, length-take}
 use Rattle.std.proofs.lemmas.Grind.{common_steps}
 use Rattle.memory.specs.Words.{Whole, whole_blocks}
 use Rattle.memory.specs.Buffers.{image_words}
-use Rattle.memory.specs.Windows.{start_of, blocks_of, window_words, window_beyond}
+use Rattle.memory.specs.Windows.{start_of, blocks_of, window_words}
 use Rattle.memory.specs.Images.{length-image}
 use Rattle.memory.specs.WindowsLemmas.{length-window, window_rejoined}
 use Rattle.frames.specs.Frames.{count_of, copied, unpacked_blocks, unpacked_words}

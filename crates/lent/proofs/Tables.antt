@@ -1,5 +1,5 @@
 -- The bytes that a memory is lent, given back, and the numbers of an answer written.
-use Rattle.std.proofs.Common.{◌≡◌, ℕ, zero, suc, ◌+◌, ◌*◌, ◌/◌, ◌≤◌, min, List, [], ◌∷◌, ◌++◌, length, slice_index_or, set, take, drop, sym, refl, ap, ◌∙◌, ⊎_elim, length-drop, length-take, arith}
+use Rattle.std.proofs.Common.{◌≡◌, ℕ, zero, suc, ◌+◌, ◌*◌, ◌/◌, ◌≤◌, min, List, [], ◌∷◌, ◌++◌, length, slice_index_or, set, take, drop, refl, ap, ◌∙◌, length-drop, length-take, arith}
 use Rattle.memory.specs.Buffers.{image_words, image_beyond}
 use Rattle.memory.specs.Images.{length-image}
 

@@ -1,5 +1,5 @@
 -- The front of what is lent, cut at a limit: all of it, or as many items as the limit says.
-use Rattle.std.proofs.Common.{◌≡◌, ℕ, ◌≤◌, min, List, length, take, drop, sym, ap, ◌∙◌, ⊎_elim, drop_of_length-le, arith}
+use Rattle.std.proofs.Common.{◌≡◌, ℕ, min, List, length, take, drop, sym, ap, ◌∙◌, ⊎_elim, drop_of_length-le, arith}
 use Rattle.std.proofs.lemmas.List.{take_all}
 use Rattle.std.proofs.lemmas.Bool.{cases_lt}
 

@@ -30,12 +30,18 @@ impl fmt::Display for Shortfall {
             Shortfall::NotWhole(not_run, input_full) => {
                 if let Some(line) = not_run {
                     write!(f, "line {line} was not run, nor any after it: ")?;
-                    write!(f, "fewer than 64 of the report's {REPORT_BYTES} bytes were free")?;
+                    write!(
+                        f,
+                        "fewer than 64 of the report's {REPORT_BYTES} bytes were free"
+                    )?;
                     write!(f, "{}", if *input_full { "; " } else { "" })?;
                 }
                 if *input_full {
                     write!(f, "{SCRIPT_BYTES} bytes were read, which is the most: ")?;
-                    write!(f, "what may follow was not read, and the last line may be cut")?;
+                    write!(
+                        f,
+                        "what may follow was not read, and the last line may be cut"
+                    )?;
                 }
                 Ok(())
             }
@@ -74,7 +80,11 @@ fn run(rt: &HostRuntime) -> Result<(), Shortfall> {
     let mut limited = rt.stdin().take(SCRIPT_BYTES as u64);
     limited.read_to_end(&mut input).map_err(Shortfall::Reading)?;
     let mut report = [0; REPORT_BYTES];
-    let Batch { rows, not_run, input_full } = batch::run(&input, &mut report);
+    let Batch {
+        rows,
+        not_run,
+        input_full,
+    } = batch::run(&input, &mut report);
     print(rt, rows)?;
     if not_run.is_some() || input_full {
         return Err(Shortfall::NotWhole(not_run, input_full));

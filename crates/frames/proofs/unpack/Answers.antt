@@ -1,6 +1,6 @@
-use Rattle.std.proofs.Common.{◌≡◌, ℕ, ◌+◌, ◌*◌, ◌/◌, ◌≤◌, Ok, length, take, drop, refl, ap, sym, ◌∙◌, arith}
+use Rattle.std.proofs.Common.{◌≡◌, ◌+◌, ◌*◌, ◌/◌, take, drop, refl, ap, ◌∙◌, arith}
 use Rattle.memory.specs.Buffers.{image_words}
-use Rattle.memory.specs.Windows.{start_of, blocks_of, window_words, window_beyond}
+use Rattle.memory.specs.Windows.{start_of, blocks_of, window_words}
 use Rattle.frames.specs.Frames.{count_of, unpacked_blocks}
 use Rattle.frames.proofs.Unpacks.{counted, unpacked_so}
 use Rattle.frames.proofs.unpack.Goals as goal
