@@ -3,12 +3,14 @@
 //!     bench script                             prints the mixed script
 //!     bench report                             prints the proved store's report on it
 //!     bench SIDE script TIMES                  runs the mixed script so often
-//!     bench SIDE jobs K ABORTED OPEN TIMES     so many jobs of k loads and k stores each on the board book, of which one in
-//!                                              ABORTED is aborted (0: none), beside OPEN other jobs
-//!     bench SIDE refused OPEN TIMES            so many stores that are refused, since the last of OPEN jobs has a token there
+//!     bench SIDE jobs K ABORTED OPEN TIMES     so many jobs of k loads and k stores each on the
+//!                                              board book, of which one in ABORTED is aborted
+//!                                              (0: none), beside OPEN other jobs
+//!     bench SIDE refused OPEN TIMES            so many stores that are refused, since the last of
+//!                                              OPEN jobs has a token there
 //!
-//! SIDE is `station`, `plain`, or `none`, which makes the list of calls and runs nothing. A run prints the nanoseconds of
-//! each script, job or store.
+//! SIDE is `station`, `plain`, or `none`, which makes the list of calls and runs nothing. A run
+//! prints the nanoseconds of each script, job or store.
 
 #[path = "../tests/fuzz/generate.rs"]
 mod generate;
@@ -71,7 +73,8 @@ fn jobs(k: u64, aborted: u64, times: u64) -> impl Iterator<Item = Call> {
     })
 }
 
-/// Stores by thread 0 to a block where the last of the other jobs has a token, so that each is refused.
+/// Stores by thread 0 to a block where the last of the other jobs has a token, so that each is
+/// refused.
 fn refused(open: u64, times: u64) -> impl Iterator<Item = Call> {
     let reader = [LOAD, open, 0, 0];
     let stores = (0..times).map(|word| [STORE, 0, 0, word]);
@@ -124,7 +127,9 @@ fn main() -> io::Result<()> {
             let calls = others(figure(open)).chain(jobs(figure(k), figure(aborted), figure(times)));
             (replayed(side(name), calls), figure(times))
         }
-        [name, "refused", open, times] => (replayed(side(name), refused(figure(open), figure(times))), figure(times)),
+        [name, "refused", open, times] => {
+            (replayed(side(name), refused(figure(open), figure(times))), figure(times))
+        }
         _ => panic!("usage: see the head of bench.rs"),
     };
     println!("{:.1}", time / times as f64);

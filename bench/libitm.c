@@ -1,6 +1,7 @@
-/* The benchmark's jobs as transactions of GCC's transactional memory: begin, k loads, k stores, commit; every second one
-   cancelled where ABORTED is 2. Where THREADS is 2, another thread has run a transaction too, and sleeps: from then on the
-   library guards each access by locks and a log. While one thread alone uses transactions it does without.
+/* The benchmark's jobs as transactions of GCC's transactional memory: begin, k loads, k stores,
+   commit; every second one cancelled where ABORTED is 2. Where THREADS is 2, another thread has run
+   a transaction too, and sleeps: from then on the library guards each access by locks and a log.
+   While one thread alone uses transactions it does without.
 
        libitm K ABORTED THREADS TIMES      prints the nanoseconds of each job */
 
@@ -20,7 +21,8 @@ static uint64_t table[WORDS];
 #define ADDRESS(step, job) (((step) * 8 + (job)) % REACH)
 
 /* The words that are stored need those that were loaded, or the compiler would drop the loads.
-   A transaction that holds a cancel is compiled otherwise than one without, so each kind has its own function. */
+   A transaction that holds a cancel is compiled otherwise than one without, so each kind has its
+   own function. */
 __attribute__((noinline)) static void committed(size_t k, size_t job) {
     __transaction_atomic {
         uint64_t sum = job;

@@ -1,5 +1,5 @@
-//! A buoy's half hour, from Rust: one job writes its block, another reads it, a third is put back. Prints each answer
-//! and the block's words afterwards, then the report of a script.
+//! A buoy's half hour, from Rust: one job writes its block, another reads it, a third is put back.
+//! Prints each answer and the block's words afterwards, then the report of a script.
 
 /// The static library, in Rust's terms.
 mod shore {
@@ -12,9 +12,8 @@ mod shore {
                 script_length: usize,
                 report: *mut u8,
                 report_length: usize,
-                fill: *mut usize,
                 stopped: *mut u64,
-            ) -> bool;
+            ) -> usize;
             pub fn shore_replay_board(
                 table: *mut u8,
                 table_length: usize,
@@ -22,8 +21,7 @@ mod shore {
                 calls_length: usize,
                 answers: *mut u64,
                 answers_length: usize,
-                made: *mut usize,
-            ) -> bool;
+            ) -> usize;
             pub fn shore_replay_full(
                 table: *mut u8,
                 table_length: usize,
@@ -31,13 +29,9 @@ mod shore {
                 calls_length: usize,
                 answers: *mut u64,
                 answers_length: usize,
-                made: *mut usize,
-            ) -> bool;
+            ) -> usize;
         }
     }
-
-    #[derive(Debug)]
-    pub struct NoMemory;
 
     #[derive(Clone, Copy)]
     pub enum Book {
@@ -107,57 +101,48 @@ mod shore {
     }
 
     /// Makes the calls on a fresh store over the whole blocks of the table: an answer for each.
-    pub fn replay(book: Book, table: &mut [u8], calls: &[Call]) -> Result<Vec<Answer>, NoMemory> {
+    pub fn replay(book: Book, table: &mut [u8], calls: &[Call]) -> Vec<Answer> {
         let numbers: Vec<[u64; 4]> = calls.iter().map(|call| call.numbers()).collect();
         let numbers = numbers.as_flattened();
-        let mut answers = vec![0; numbers.len()];
-        let mut made = 0;
+        let mut answers = vec![[0; 4]; calls.len()];
+        let room = answers.as_flattened_mut();
         let shore_replay = match book {
             Book::Board => c::shore_replay_board,
             Book::Full => c::shore_replay_full,
         };
-        // SAFETY: each pointer comes from a slice or a variable of its own, with that slice's length.
-        let granted = unsafe {
+        // SAFETY: each pointer comes from a slice of its own, with that slice's length.
+        let made = unsafe {
             shore_replay(
                 table.as_mut_ptr(),
                 table.len(),
                 numbers.as_ptr(),
                 numbers.len(),
-                answers.as_mut_ptr(),
-                answers.len(),
-                &mut made,
+                room.as_mut_ptr(),
+                room.len(),
             )
         };
-        if !granted {
-            return Err(NoMemory);
-        }
-        let answers = answers.chunks_exact(4).take(made);
-        Ok(answers.map(|answer| Answer::from([answer[0], answer[1], answer[2], answer[3]])).collect())
+        answers.truncate(made);
+        answers.into_iter().map(Answer::from).collect()
     }
 
     /// Runs a script: the rows in the report, and the number of the line at which it stopped early.
-    pub fn run<'a>(script: &str, report: &'a mut [u8]) -> Result<(&'a [u8], Option<u64>), NoMemory> {
-        let (mut fill, mut stopped) = (0, 0);
-        // SAFETY: as above.
-        let granted = unsafe {
+    pub fn run<'a>(script: &str, report: &'a mut [u8]) -> (&'a [u8], Option<u64>) {
+        let mut stopped = 0;
+        // SAFETY: each pointer comes from a slice or a variable of its own, with its length.
+        let fill = unsafe {
             c::shore_run(
                 script.as_ptr(),
                 script.len(),
                 report.as_mut_ptr(),
                 report.len(),
-                &mut fill,
                 &mut stopped,
             )
         };
-        if granted {
-            Ok((&report[..fill], (stopped != 0).then_some(stopped)))
-        } else {
-            Err(NoMemory)
-        }
+        (&report[..fill], (stopped != 0).then_some(stopped))
     }
 }
 
-use shore::{Book, Call, NoMemory};
+use shore::{Book, Call};
 
 /// Block 1 has the half hour's number, its wave height and its period.
 const CALLS: [Call; 16] = [
@@ -181,35 +166,34 @@ const CALLS: [Call; 16] = [
     Call::Abort(1),
 ];
 
-fn replay_half_hour(book: Book) -> Result<(), NoMemory> {
+fn replay_half_hour(book: Book) {
     // two blocks, and five bytes that are no block
     let mut table = [0; 2 * 64 + 5];
     table[128..].fill(b'.');
-    for answer in shore::replay(book, &mut table, &CALLS)? {
+    for answer in shore::replay(book, &mut table, &CALLS) {
         println!("{answer}");
     }
-    let words: Vec<String> = table[64..128]
-        .chunks_exact(8)
-        .map(|bytes| bytes.iter().fold(0, |word, byte| word << 8 | u64::from(*byte)).to_string())
-        .collect();
-    println!("block 1: {}", words.join(" "));
+    let (words, _) = table[64..128].as_chunks::<8>();
+    print!("block 1:");
+    for word in words {
+        print!(" {}", u64::from_be_bytes(*word));
+    }
+    println!();
     println!("behind: {}", String::from_utf8_lossy(&table[128..]));
-    Ok(())
 }
 
-fn run_script() -> Result<(), NoMemory> {
+fn run_script() {
     let mut report = [0; 192];
-    let (rows, stopped) = shore::run("b 1\ns 1 8 17\nc 1\nb 2\nl 2 8\nc 2\nl 2 8\n", &mut report)?;
+    let (rows, stopped) = shore::run("b 1\ns 1 8 17\nc 1\nb 2\nl 2 8\nc 2\nl 2 8\n", &mut report);
     print!("{}", String::from_utf8_lossy(rows));
     match stopped {
         Some(line) => println!("stopped at line {line}"),
         None => println!("run to its end"),
     }
-    Ok(())
 }
 
-fn main() -> Result<(), NoMemory> {
-    replay_half_hour(Book::Board)?;
-    replay_half_hour(Book::Full)?;
-    run_script()
+fn main() {
+    replay_half_hour(Book::Board);
+    replay_half_hour(Book::Full);
+    run_script();
 }

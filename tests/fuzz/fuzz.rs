@@ -1,5 +1,5 @@
-//! Runs scripts and lists of calls on the proved store and on the plain program, and ends with status 1 at the first
-//! difference or crash.
+//! Runs scripts and lists of calls on the proved store and on the plain program, and ends with
+//! status 1 at the first difference or crash.
 //!
 //!     fuzz SEED SECONDS [CASES]     stops at whichever comes first
 //!
@@ -41,7 +41,9 @@ impl Counts {
         for row in rows.split(|&byte| byte == b'\n').filter(|row| !row.is_empty()) {
             let mut fields = row.split(|&byte| byte == b' ').skip(1);
             let refusal = match fields.next() {
-                Some(b"no") => fields.nth(1).map(|field| String::from_utf8_lossy(field).parse().unwrap_or(0)),
+                Some(b"no") => {
+                    fields.nth(1).map(|field| String::from_utf8_lossy(field).parse().unwrap_or(0))
+                }
                 _ => None,
             };
             self.lines += 1;
@@ -51,19 +53,31 @@ impl Counts {
 
     fn print(&self, cases: u64) {
         println!("fuzz: {cases} cases, no difference");
-        println!("fuzz: {} scripts, {} bytes, {} lines with a row", self.scripts, self.bytes, self.lines);
-        println!("fuzz: {} lists of calls, each on both books, {} calls made on each", self.lists, self.calls);
+        println!(
+            "fuzz: {} scripts, {} bytes, {} lines with a row",
+            self.scripts, self.bytes, self.lines
+        );
+        println!(
+            "fuzz: {} lists of calls, each on both books, {} calls made on each",
+            self.lists, self.calls
+        );
         println!("fuzz: {} granted; refused by {}", self.granted, self.refusals());
     }
 
     fn refusals(&self) -> String {
-        let counts = self.refused.iter().enumerate().skip(1).map(|(number, count)| format!("{number}: {count}"));
+        let counts = self
+            .refused
+            .iter()
+            .enumerate()
+            .skip(1)
+            .map(|(number, count)| format!("{number}: {count}"));
         counts.collect::<Vec<_>>().join(", ")
     }
 
     /// Whether every refusal occurred but 10, which no call can meet.
     fn all_refusals(&self) -> bool {
-        (1..15).filter(|&number| number != 10).all(|number| self.refused[number] > 0) && self.refused[10] == 0
+        (1..15).filter(|&number| number != 10).all(|number| self.refused[number] > 0)
+            && self.refused[10] == 0
     }
 }
 
@@ -94,7 +108,11 @@ impl Case {
         let calls = generate::calls(&mut random);
         let room = if random.one_in(3) { random.index(calls.len() + 9) } else { calls.len() };
         let length = generate::table_length(&mut random);
-        Case::Calls { table: random.bytes(length + 2 * MARGIN), calls, answers: random.words(room + 2 * MARGIN) }
+        Case::Calls {
+            table: random.bytes(length + 2 * MARGIN),
+            calls,
+            answers: random.words(room + 2 * MARGIN),
+        }
     }
 
     fn proved(&self, full: bool) -> Left {
@@ -183,13 +201,16 @@ impl Case {
     }
 }
 
-/// Whether two lists of answers differ in the release figures alone, and those lie as docs/RULES.md says.
+/// Whether two lists of answers differ in the release figures alone, and those lie as docs/RULES.md
+/// says.
 fn books_agree(board: &Left, full: &Left) -> bool {
     let made = board.2[0] as usize;
     let (board_answers, full_answers) = (board.1[MARGIN..].chunks(4), full.1[MARGIN..].chunks(4));
     let mut answers = board_answers.zip(full_answers).take(made);
     let alike = answers.all(|(one, other)| match (one, other) {
-        ([0, 2, records, figure], [0, 2, same, held]) => records == same && (*held..=2 * held).contains(figure),
+        ([0, 2, records, figure], [0, 2, same, held]) => {
+            records == same && (*held..=2 * held).contains(figure)
+        }
         _ => one == other,
     });
     alike && board.0 == full.0 && board.2 == full.2
@@ -253,8 +274,11 @@ fn watch(arguments: &[String], seed: u64) -> io::Result<ExitCode> {
 fn main() -> io::Result<ExitCode> {
     let mut arguments: Vec<String> = env::args().skip(1).collect();
     let child = arguments.pop_if(|last| last == "child").is_some();
-    let figure = |place: usize, otherwise: u64| arguments.get(place).map_or(Ok(otherwise), |text| text.parse());
-    let (Ok(seed), Ok(seconds), Ok(cases)) = (figure(0, 1), figure(1, 5), figure(2, u64::MAX)) else {
+    let figure = |place: usize, otherwise: u64| {
+        arguments.get(place).map_or(Ok(otherwise), |text| text.parse())
+    };
+    let (Ok(seed), Ok(seconds), Ok(cases)) = (figure(0, 1), figure(1, 5), figure(2, u64::MAX))
+    else {
         println!("usage: fuzz SEED SECONDS [CASES]");
         return Ok(ExitCode::from(2));
     };

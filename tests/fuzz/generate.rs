@@ -1,4 +1,5 @@
-//! Scripts and lists of calls, made from a seed: the same seed makes the same ones on every machine.
+//! Scripts and lists of calls, made from a seed: the same seed makes the same ones on every
+//! machine.
 
 // The fuzz and the benchmark use a part each.
 #![allow(dead_code)]
@@ -139,7 +140,8 @@ fn put_line(script: &mut Vec<u8>, call: &Call) {
     script.push(b'\n');
 }
 
-/// The benchmark's script: twelve threads over the whole table, all seven calls, and some that are refused.
+/// The benchmark's script: twelve threads over the whole table, all seven calls, and some that are
+/// refused.
 pub fn mixed(bytes: usize) -> Vec<u8> {
     let mut random = Random::new(1, 0);
     let mut caller = Caller::new(12, 512, 50);
@@ -219,7 +221,10 @@ fn damage(random: &mut Random, script: &mut Vec<u8>) {
         }
         _ => {
             // Before or behind a field most of the time, where it tells most.
-            let at = script[place..].iter().position(|&byte| byte <= b' ').map_or(place, |far| place + far);
+            let at = script[place..]
+                .iter()
+                .position(|&byte| byte <= b' ')
+                .map_or(place, |far| place + far);
             let at = if random.one_in(2) { (at + 1).min(script.len()) } else { at };
             script.splice(at..at, random.pick(&ODD).iter().copied());
         }
@@ -258,7 +263,8 @@ pub fn report_length(random: &mut Random, script: &[u8]) -> usize {
 }
 
 /// A letter in the lowest byte alone is not enough.
-const NO_LETTERS: [u64; 6] = [0, b'x' as u64, b'B' as u64, 0x100 + b'b' as u64, (1 << 32) + b'l' as u64, u64::MAX];
+const NO_LETTERS: [u64; 6] =
+    [0, b'x' as u64, b'B' as u64, 0x100 + b'b' as u64, (1 << 32) + b'l' as u64, u64::MAX];
 
 pub fn calls(random: &mut Random) -> Vec<u64> {
     let mut caller = Caller::any(random);

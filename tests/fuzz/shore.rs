@@ -9,9 +9,8 @@ extern "C" {
         script_length: usize,
         report: *mut u8,
         report_length: usize,
-        fill: *mut usize,
         stopped: *mut u64,
-    ) -> bool;
+    ) -> usize;
     fn shore_replay_board(
         table: *mut u8,
         table_length: usize,
@@ -19,8 +18,7 @@ extern "C" {
         calls_length: usize,
         answers: *mut u64,
         answers_length: usize,
-        made: *mut usize,
-    ) -> bool;
+    ) -> usize;
     fn shore_replay_full(
         table: *mut u8,
         table_length: usize,
@@ -28,16 +26,15 @@ extern "C" {
         calls_length: usize,
         answers: *mut u64,
         answers_length: usize,
-        made: *mut usize,
-    ) -> bool;
+    ) -> usize;
 }
 
 /// A script on a fresh store: the fill mark, and the line at which the report was full or 0.
 pub fn run(script: &[u8], report: &mut [u8]) -> (usize, u64) {
-    let (mut fill, mut stopped) = (usize::MAX, u64::MAX);
+    let mut stopped = u64::MAX;
     let (length, room) = (script.len(), report.len());
-    let ran = unsafe { shore_run(script.as_ptr(), length, report.as_mut_ptr(), room, &mut fill, &mut stopped) };
-    assert!(ran, "the library had no memory");
+    let fill =
+        unsafe { shore_run(script.as_ptr(), length, report.as_mut_ptr(), room, &mut stopped) };
     (fill, stopped)
 }
 
@@ -45,9 +42,5 @@ pub fn run(script: &[u8], report: &mut [u8]) -> (usize, u64) {
 pub fn replay(full: bool, table: &mut [u8], calls: &[u64], answers: &mut [u64]) -> usize {
     let replay = if full { shore_replay_full } else { shore_replay_board };
     let (bytes, length, room) = (table.len(), calls.len(), answers.len());
-    let mut made = usize::MAX;
-    let ran =
-        unsafe { replay(table.as_mut_ptr(), bytes, calls.as_ptr(), length, answers.as_mut_ptr(), room, &mut made) };
-    assert!(ran, "the library had no memory");
-    made
+    unsafe { replay(table.as_mut_ptr(), bytes, calls.as_ptr(), length, answers.as_mut_ptr(), room) }
 }
