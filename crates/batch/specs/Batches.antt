@@ -9,8 +9,9 @@ abbrev pub line_in : Option Fault → Option ℕ
 line_in None = None
 line_in (Some f) = Some (place_of f.refusal)
 
--- the first 32768 bytes of the input are run, and the rows are the bytes of the report up to the fill mark;
--- `Kept` says what a run promises of its script, the report before and after, and how far it came
+-- the first 32768 bytes of the input are run, and the rows are the bytes of the report up to the
+-- fill mark; `Kept` says what a run promises of its script, the report before and after, and how
+-- far it came
 pub record Batched (Kept : List ℕ → List ℕ → List ℕ → Ran → Type 0) (input before rows : List ℕ) (not_run : Option ℕ) : Type 0 where
   pub after : List ℕ
   pub ran : Ran

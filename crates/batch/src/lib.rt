@@ -1,5 +1,5 @@
-//! A batch: one script from its first line to its last, and the report that it leaves. This is the station's whole work;
-//! the program `station` reads the input, calls this and prints.
+//! A batch: one script from its first line to its last, and the report that it leaves. This is the
+//! station's whole work; the program `station` reads the input, calls this and prints.
 #![tactic(auto)]
 
 ghost use Rattle.std.specs.Prelude.{◌≡◌, ◌≤◌, ◌↔◌, length, IsTrue};
@@ -23,17 +23,20 @@ pub const REPORT_BYTES: usize = 65_536;
 pub struct Batch<'a> {
     /// the rows of the report, for the lines that were run
     pub rows: &'a [u8],
-    /// the number of the first line that was not run, since fewer than 64 bytes of the report were free
+    /// the number of the first line that was not run, since fewer than 64 bytes of the report were
+    /// free
     pub not_run: Option<u64>,
-    /// whether the input has 32,768 bytes or more: what may follow these was not run, and the last line may be cut
+    /// whether the input has 32,768 bytes or more: what may follow these was not run, and the last
+    /// line may be cut
     pub input_full: bool,
 }
 
-/// Runs the first 32,768 bytes of an input on a fresh store with the board book over 512 zero words. The report is the
-/// caller's, and what it held does not matter.
+/// Runs the first 32,768 bytes of an input on a fresh store with the board book over 512 zero
+/// words. The report is the caller's, and what it held does not matter.
 pub fn run<'a>(input: &[u8], report: &'a mut [u8; REPORT_BYTES]) -> Batch<'a>
     ensures rows { Batched (λ script before after ran. OnFreshBoard (λ book.
-        RanOnZeros ⟦<BoardBook as Book>⟧.holding ⟦<BoardBook as Book>⟧.moves ⟦<BoardBook as Marked>⟧.picture
+        RanOnZeros ⟦<BoardBook as Book>⟧.holding ⟦<BoardBook as Book>⟧.moves
+        ⟦<BoardBook as Marked>⟧.picture
         book script before after ran))
         input.now report.old result.rows.now result.not_run }
     ensures room { length report.old ≡ 65536 }

@@ -1,5 +1,5 @@
-//! The store as a static library for C: each export calls `lent` over a fresh book, and takes no memory but its stack.
-//! include/shore.h declares them for C.
+//! The store as a static library for C: each export calls `lent` over a fresh book, and takes no
+//! memory but its stack. include/shore.h declares them for C.
 #![tactic(auto)]
 
 ghost use Rattle.std.specs.Prelude.{◌≡◌};
@@ -16,7 +16,8 @@ use full::FullBook;
 #[unsafe(no_mangle)]
 pub extern "C" fn shore_run(script: &[u8], report: &mut [u8], stopped: &mut u64) -> usize
     ensures { OnFreshBoard (λ book. WithFigures result stopped.new (λ ran.
-        RanOnZeros ⟦<BoardBook as Book>⟧.holding ⟦<BoardBook as Book>⟧.moves ⟦<BoardBook as Marked>⟧.picture
+        RanOnZeros ⟦<BoardBook as Book>⟧.holding ⟦<BoardBook as Book>⟧.moves
+        ⟦<BoardBook as Marked>⟧.picture
         book script.now report.old report.new ran)) }
 {
     let ran = lent::run(BoardBook::new(), script, report);
@@ -35,7 +36,8 @@ fn line_of(stopped: Option<Fault>) -> u64
 #[unsafe(no_mangle)]
 pub extern "C" fn shore_replay_board(table: &mut [u8], calls: &[u64], answers: &mut [u64]) -> usize
     ensures { OnFreshBoard (λ book.
-        MadeMarked ⟦<BoardBook as Book>⟧.holding ⟦<BoardBook as Book>⟧.moves ⟦<BoardBook as Marked>⟧.picture
+        MadeMarked ⟦<BoardBook as Book>⟧.holding ⟦<BoardBook as Book>⟧.moves
+        ⟦<BoardBook as Marked>⟧.picture
         book table.old calls.now answers.old table.new answers.new result) }
 {
     lent::replay_marked(BoardBook::new(), table, calls, answers)

@@ -12,7 +12,8 @@ count_of from to = min (length from) (length to)
 abbrev pub copied : List ℕ → List ℕ → List ℕ
 copied from to = take (count_of from to) from ++ drop (count_of from to) to
 
--- the whole frames of a report that fit a table of words: at most 64, the blocks of the largest memory
+-- the whole frames of a report that fit a table of words: at most 64, the blocks of the largest
+-- memory
 abbrev pub unpacked_blocks : List ℕ → List ℕ → ℕ
 unpacked_blocks bytes words = min (whole_blocks (length bytes) 64) (length words / 8)
 

@@ -14,7 +14,8 @@ pub struct Mirror<A: Memory, B: Memory> {
 }
 
 impl<A: Memory, B: Memory> Mirror<A, B> {
-    /// Copies the words of the first memory into the second. Gives both back as they were where their sizes differ.
+    /// Copies the words of the first memory into the second. Gives both back as they were where
+    /// their sizes differ.
     pub fn over(first: A, mut second: B) -> Result<Self, (A, B)>
         ensures when { is_ok result ≡ (length (A.Memory.words first) == length (B.Memory.words second)) }
         ensures first { IfOk result (λ mirror. mirror.first ≡ first) }
@@ -76,7 +77,8 @@ impl<A: Memory, B: Memory> Memory for Mirror<A, B> {
         ensures beyond { A.Memory.beyond self.new.first ++ B.Memory.beyond self.new.second ≡ A.Memory.beyond self.old.first ++ B.Memory.beyond self.old.second }
         ensures refused { OnErr result (self.new ≡ self.old) }
     {
-        // asked first, so that a refusal leaves both as they are: the sizes agree, and no write below is refused
+        // asked first, so that a refusal leaves both as they are: the sizes agree, and no write
+        // below is refused
         self.read(address)?;
         self.first.write(address, word)?;
         self.second.write(address, word)

@@ -1,5 +1,5 @@
-//! One buoy report through its four steps over the board book: once with each step a held job, and once with each access
-//! in a job of its own, where the outgoing record mixes two half hours.
+//! One buoy report through its four steps over the board book: once with each step a held job, and
+//! once with each access in a job of its own, where the outgoing record mixes two half hours.
 #![tactic(auto)]
 
 mod access;
@@ -29,9 +29,9 @@ const NEXT: Reading = Reading {
     },
 };
 
-/// How the four steps went, the verdict as a job of its own read it back after the third, and another
-/// job's offer of the next half hour in the midst of the fourth: none is made where the fourth
-/// step's job is not even begun.
+/// How the four steps went, the verdict as a job of its own read it back after the third, and
+/// another job's offer of the next half hour in the midst of the fourth: none is made where the
+/// fourth step's job is not even begun.
 #[derive(Clone, Copy)]
 struct Outcomes {
     unpacked: Result<(), Fault>,

@@ -22,7 +22,8 @@ pub fn call_of(numbers: [u64; 4]) -> Option<Call>
     }
 }
 
-/// Granted: 0, how many values, the values. Refused: the layer's letter, the refusal's number, what it carries.
+/// Granted: 0, how many values, the values. Refused: the layer's letter, the refusal's number, what
+/// it carries.
 pub fn numbers_of(answer: Result<Answer, Fault>) -> [u64; 4]
     ensures { result ≡ numbers_of answer }
 {

@@ -6,15 +6,17 @@ use book::{Book, Marked};
 use memory::{ImageArray, MOST_BYTES};
 use store::Store;
 
-/// Makes the calls on a fresh store over the bytes of a table. A call is four numbers, and so is its answer. Made are
-/// the whole groups of four that have room for their answers, up to the first that is no call: the number of these is the result.
+/// Makes the calls on a fresh store over the bytes of a table. A call is four numbers, and so is
+/// its answer. Made are the whole groups of four that have room for their answers, up to the first
+/// that is no call: the number of these is the result.
 pub fn replay<B: Book + Drop>(
     book: B,
     table: &mut [u8],
     calls: &[u64],
     answers: &mut [u64],
 ) -> usize
-    ensures { MadeReplayed B.Book.holding B.Book.moves book table.old calls.now answers.old table.new answers.new result }
+    ensures { MadeReplayed B.Book.holding B.Book.moves
+        book table.old calls.now answers.old table.new answers.new result }
 {
     let mut store = Store::fresh(ImageArray::copy_of(table), book);
     let (groups, _) = calls.as_chunks::<4>();
@@ -44,7 +46,8 @@ pub fn replay_marked<B: Marked + Drop>(
     calls: &[u64],
     answers: &mut [u64],
 ) -> usize
-    ensures { MadeMarked B.Book.holding B.Book.moves B.Marked.picture book table.old calls.now answers.old table.new answers.new result }
+    ensures { MadeMarked B.Book.holding B.Book.moves B.Marked.picture
+        book table.old calls.now answers.old table.new answers.new result }
 {
     replay(book, table, calls, answers)
 }

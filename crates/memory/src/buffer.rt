@@ -1,5 +1,6 @@
 //! Buffer: a memory over a buffer of items, each a word or a byte of a word.
-ghost use Rattle.std.specs.Prelude.{◌≡◌, ℕ, ◌*◌, ◌^◌, ◌<◌, ◌≤◌, List, length, slice_index, slice_set, OnErr};
+ghost use Rattle.std.specs.Prelude.{◌≡◌, ℕ, ◌*◌, ◌^◌, ◌<◌, ◌≤◌, List, length};
+ghost use Rattle.std.specs.Prelude.{slice_index, slice_set, OnErr};
 ghost use Rattle.memory.specs.Words.{write_answer, whole_blocks};
 ghost use Rattle.memory.specs.Fronts.{whole_counted};
 
@@ -7,8 +8,9 @@ use super::Memory;
 use crate::storage::Storage;
 use fault::Fault;
 
-/// An item of a buffer, and how words lie in a buffer of such items: the whole blocks at its front, at most 64, are the
-/// memory's words. Not exported, since its functions ask for an address within the words: memories alone call them.
+/// An item of a buffer, and how words lie in a buffer of such items: the whole blocks at its front,
+/// at most 64, are the memory's words. Not exported, since its functions ask for an address within
+/// the words: memories alone call them.
 pub trait Item: Copy {
     /// how many items a block has
     const PER_BLOCK: usize;
@@ -82,7 +84,8 @@ impl<S: Storage> Memory for Buffer<S> {
 
     ghost beyond = { λ m. S.Elem.beyond (S.items m.buffer) };
 
-    ghost whole = { λ m. whole_counted (S.Elem.words (S.items m.buffer)) (length (S.items m.buffer)) S.Elem.PER_BLOCK (S.Elem.counted (S.items m.buffer)) };
+    ghost whole = { λ m. let items = S.items m.buffer in
+        whole_counted (S.Elem.words items) (length items) S.Elem.PER_BLOCK (S.Elem.counted items) };
 
     fn size(&self) -> u64 {
         (self.buffer.items().len() / S::Elem::PER_BLOCK).min(64) as u64
@@ -96,10 +99,13 @@ impl<S: Storage> Memory for Buffer<S> {
     /// The trait's clauses stand again, since an impl that adds one (items) names them all.
     fn write(&mut self, address: u64, word: u64) -> Result<(), Fault>
         ensures answer { result ≡ write_answer (S.Elem.words (S.items self.old.buffer)) address }
-        ensures after { S.Elem.words (S.items self.new.buffer) ≡ slice_set (S.Elem.words (S.items self.old.buffer)) address word }
-        ensures beyond { S.Elem.beyond (S.items self.new.buffer) ≡ S.Elem.beyond (S.items self.old.buffer) }
+        ensures after { S.Elem.words (S.items self.new.buffer)
+            ≡ slice_set (S.Elem.words (S.items self.old.buffer)) address word }
+        ensures beyond { S.Elem.beyond (S.items self.new.buffer)
+            ≡ S.Elem.beyond (S.items self.old.buffer) }
         ensures refused { OnErr result (self.new ≡ self.old) }
-        ensures items { S.items self.new.buffer ≡ S.Elem.after (S.items self.old.buffer) address word }
+        ensures items { S.items self.new.buffer
+            ≡ S.Elem.after (S.items self.old.buffer) address word }
     {
         super::check(address, self.size())?;
         self.buffer.put_word(address as usize, word);

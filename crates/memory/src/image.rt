@@ -1,4 +1,5 @@
-//! Byte image: each item of the buffer is a byte, and each word stands in eight of them, the most significant first.
+//! Byte image: each item of the buffer is a byte, and each word stands in eight of them, the most
+//! significant first.
 ghost use Rattle.std.proofs.Common.{lit<};
 ghost use Rattle.std.specs.Prelude.{◌≡◌, ◌≤◌, length, take};
 ghost use Rattle.memory.specs.Buffers.{image_words, image_beyond, image_after};
@@ -25,7 +26,8 @@ pub fn front(bytes: &[u8], limit: usize) -> &[u8]
 }
 
 impl ImageArray<MOST_BYTES> {
-    /// Over a copy of the bytes, or of the first 4,096 where there are more: those are all that a memory can use.
+    /// Over a copy of the bytes, or of the first 4,096 where there are more: those are all that a
+    /// memory can use.
     pub fn copy_of(bytes: &[u8]) -> Self
         ensures { result.buffer.items ≡ take 4096 bytes.now }
     {

@@ -16,7 +16,8 @@ pub use image::{Image, ImageArray, MOST_BYTES, front};
 pub use plain::{MOST_WORDS, Plain, PlainArray};
 pub use window::Window;
 
-/// A memory means a list of words, in whole blocks of eight and at most 64 blocks, whose length never changes.
+/// A memory means a list of words, in whole blocks of eight and at most 64 blocks, whose length
+/// never changes.
 pub trait Memory {
     // the words, by address
     ghost words: { Self → List ℕ };

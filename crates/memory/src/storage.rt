@@ -1,11 +1,12 @@
-//! Storage: what holds the items of a buffer. A vector has as many as the machine has room for; an array has a limit in
-//! its type, and allocates nothing.
+//! Storage: what holds the items of a buffer. A vector has as many as the machine has room for; an
+//! array has a limit in its type, and allocates nothing.
 ghost use Rattle.std.specs.Prelude.{◌≡◌, ◌<◌, List, length};
 
 use crate::buffer::Item;
 use arrayvec::ArrayVec;
 
-/// Owns items in a row. Not exported, since a word is put where the caller says: memories alone do that.
+/// Owns items in a row. Not exported, since a word is put where the caller says: memories alone do
+/// that.
 pub trait Storage {
     type Elem: Item;
 

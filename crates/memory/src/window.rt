@@ -7,8 +7,8 @@ ghost use Rattle.memory.specs.WindowsLemmas.{whole_window};
 use super::Memory;
 use fault::Fault;
 
-/// Begins at the smaller of `first` and the size below, and has the smaller of `count` and what remains from there.
-/// Both are kept as given: the window is cut to the memory below at each call.
+/// Begins at the smaller of `first` and the size below, and has the smaller of `count` and what
+/// remains from there. Both are kept as given: the window is cut to the memory below at each call.
 #[derive(Drop)]
 pub struct Window<M> {
     below: M,
@@ -37,7 +37,8 @@ impl<M: Memory> Window<M> {
         below
     }
 
-    /// The first block of the memory below that the window shows, with the law of that memory for the callers' proofs.
+    /// The first block of the memory below that the window shows, with the law of that memory for
+    /// the callers' proofs.
     fn start(&self) -> u64
         ensures answer { result ≡ start_of (M.Memory.words self.now.below) self.now.first }
         ensures limit { result ≤ 64 }

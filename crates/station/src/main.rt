@@ -1,5 +1,5 @@
-//! The station: reads a script from standard input, has it run by crate `batch`, and prints the report. What was not run
-//! or not read it says on standard error, and ends with status 1.
+//! The station: reads a script from standard input, has it run by crate `batch`, and prints the
+//! report. What was not run or not read it says on standard error, and ends with status 1.
 #![tactic(auto)]
 
 mod help;

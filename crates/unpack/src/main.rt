@@ -1,5 +1,6 @@
-//! Unpacks a buoy report: reads its frames from standard input, and prints the words of each and what was done. Where
-//! more may follow than it reads, it says so on standard error and ends with status 1.
+//! Unpacks a buoy report: reads its frames from standard input, and prints the words of each and
+//! what was done. Where more may follow than it reads, it says so on standard error and ends with
+//! status 1.
 #![tactic(auto)]
 
 use frames::{Report, unpack_input};

@@ -1,29 +1,18 @@
-use Rattle.std.proofs.Common.{◌≡◌, ◌+◌, ◌*◌, ◌/◌, take, drop, refl, ap, ◌∙◌, arith}
+use Rattle.std.proofs.Common.{◌≡◌, ◌+◌, ◌*◌, take, drop, ap, ◌∙◌}
 use Rattle.memory.specs.Buffers.{image_words}
 use Rattle.memory.specs.Windows.{start_of, blocks_of, window_words}
-use Rattle.frames.specs.Frames.{count_of, unpacked_blocks}
+use Rattle.frames.specs.Frames.{count_of}
 use Rattle.frames.proofs.Unpacks.{counted, unpacked_so}
-use Rattle.frames.proofs.unpack.Goals as goal
+use Rattle.frames.proofs.copy_frames.Goals as goal
 
--- how many words are copied
-pub overflow_sub-trailing : goal.overflow_sub-trailing
-overflow_sub-trailing g c =
+pub returns-clause-words : goal.returns-clause-words
+returns-clause-words g c =
     let w = c.over-window in
     let below = ap g.M.Memory.words w.ensures.below in
     let is = counted c.args.report.now (g.M.Memory.words c.args.table) c.copy_of-frames.result.buffer.items (g.M.Memory.words w.result.below) (g.met.M.Memory.whole c.args.table) w.result.first w.result.count c.copy_of-frames.ensures below w.ensures.first (ap (λ n. 8 * n) w.ensures.count ∙ c.size.ensures.answer) in
     let words : c.in_ok-words.words ≡ count_of (image_words c.copy_of-frames.result.buffer.items) (window_words (g.M.Memory.words w.result.below) w.result.first w.result.count) =
     let answer = c.in_ok-words.ensures.answer in cc in
-    omega (arith, words, is)
-
-pub returns-clause-answer : goal.returns-clause-answer
-returns-clause-answer g c =
-    let w = c.over-window in
-    let below = ap g.M.Memory.words w.ensures.below in
-    let is = counted c.args.report.now (g.M.Memory.words c.args.table) c.copy_of-frames.result.buffer.items (g.M.Memory.words w.result.below) (g.met.M.Memory.whole c.args.table) w.result.first w.result.count c.copy_of-frames.ensures below w.ensures.first (ap (λ n. 8 * n) w.ensures.count ∙ c.size.ensures.answer) in
-    let words : c.in_ok-words.words ≡ count_of (image_words c.copy_of-frames.result.buffer.items) (window_words (g.M.Memory.words w.result.below) w.result.first w.result.count) =
-    let answer = c.in_ok-words.ensures.answer in cc in
-    let blocks : c.in_ok-words.words / 8 ≡ unpacked_blocks c.args.report.now (g.M.Memory.words c.args.table) = omega (arith, words, is) in
-    rw blocks (rw (words ∙ is) refl)
+    words ∙ is
 
 pub returns-clause-table : goal.returns-clause-table
 returns-clause-table g c =
