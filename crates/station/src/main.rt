@@ -79,15 +79,10 @@ fn run(rt: &HostRuntime) -> Result<(), Shortfall> {
     let mut input = Vec::new(rt.alloc());
     let mut limited = rt.stdin().take(SCRIPT_BYTES as u64);
     limited.read_to_end(&mut input).map_err(Shortfall::Reading)?;
-    let mut report = [0; REPORT_BYTES];
-    let Batch {
-        rows,
-        not_run,
-        input_full,
-    } = batch::run(&input, &mut report);
-    print(rt, rows)?;
-    if not_run.is_some() || input_full {
-        return Err(Shortfall::NotWhole(not_run, input_full));
+    let batch = Batch::run(&input);
+    print(rt, batch.rows())?;
+    if batch.not_run.is_some() || batch.input_full {
+        return Err(Shortfall::NotWhole(batch.not_run, batch.input_full));
     }
     Ok(())
 }

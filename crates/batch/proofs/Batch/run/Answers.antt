@@ -4,7 +4,7 @@ use Rattle.book.specs.Moves.{Move}
 use Rattle.book.specs.Picture.{Picture}
 use Rattle.console.specs.declared.Ran.{Ran}
 use Rattle.lent.specs.Promises.{RanOnZeros}
-use Rattle.batch.proofs.run.Goals as goal
+use Rattle.batch.proofs.Batch.run.Goals as goal
 
 -- what was run of a script was run of one that is the same
 run_of : {B : Type 0} {holding : B → Holdings} {R : B → Move → B → Type 0} {picture : B → Picture} {book : B} {s s' report report' : List ℕ} {r : Ran} → s ≡ s' → RanOnZeros holding R picture book s report report' r → RanOnZeros holding R picture book s' report report' r
