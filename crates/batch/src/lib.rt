@@ -37,8 +37,8 @@ impl Batch {
     ghost use Rattle.batch.specs.Batches.{Batched};
     ghost use Rattle.batch.specs.Rows.{rows_in};
 
-    /// Runs the first 32,768 bytes of an input on a fresh store with the board book over 512 zero
-    /// words, with a report of 65,536 bytes.
+    /// Runs the first 32,768 bytes of an input on a fresh store of 512 words, all 0, which the board
+    /// book keeps. The report has 65,536 bytes.
     pub fn run(input: &[u8]) -> Batch
         ensures rows { Batched (λ script before after ran. OnFreshBoard (λ book.
             RanOnZeros ⟦<BoardBook as Book>⟧.holding ⟦<BoardBook as Book>⟧.moves
