@@ -17,6 +17,11 @@ pub const SCRIPT_BYTES: usize = 32_768;
 /// The bytes of a report.
 pub const REPORT_BYTES: usize = 65_536;
 
+// what the clauses below and program `station` read these limits as
+const _: () = prove!(SCRIPT_BYTES == 32_768);
+
+const _: () = prove!(REPORT_BYTES == 65_536);
+
 /// A script that was run, and its report.
 #[derive(Drop)]
 pub struct Batch {

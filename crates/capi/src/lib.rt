@@ -12,7 +12,8 @@ use book::{Book, Marked};
 use fault::Fault;
 use full::FullBook;
 
-/// Runs a script on the board book over 512 zero words: the fill mark.
+/// Runs a script on the board book over 512 zero words: the fill mark. `stopped` gets the number of
+/// the line that was not run, or 0.
 #[unsafe(no_mangle)]
 pub extern "C" fn shore_run(script: &[u8], report: &mut [u8], stopped: &mut u64) -> usize
     ensures { OnFreshBoard (λ book. WithFigures result stopped.new (λ ran.

@@ -70,7 +70,6 @@ pub fn run<M: Memory, B: Book>(store: &mut Store<M, B>, script: &[u8], report: &
 }
 
 /// Runs a script on a fresh store over a memory and a book with marks, and gives the store back beside how far it came.
-/// This is the call that the program `station` makes.
 pub fn run_fresh<M: Memory, B: Marked>(
     memory: M,
     book: B,

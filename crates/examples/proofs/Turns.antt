@@ -17,10 +17,10 @@ use Rattle.store.specs.declared.Call.{Call}
 use Rattle.store.specs.declared.Call.TheVariants.{Begin, Load, Store, Commit, Abort}
 use Rattle.store.specs.declared.Store.{Store as TheStore}
 use Rattle.examples.specs.declared.jobs.Ended.{Ended as Outcome}
-use Rattle.examples.specs.Jobs.{tens, granted, Led, abort_turns, commit_turns}
+use Rattle.examples.specs.Jobs.{first_words, granted, Led, abort_turns, commit_turns}
 
 -- no call yet
-pub led_fresh : {M B : Type 0} {words : M → List ℕ} {holding : B → Holdings} {R : B → Move → B → Type 0} {book : B} {m : List ℕ} {s : TheStore M B} → m ≡ tens → Releases R book 16 s.book → Reached m [] (state_of words holding s) → Led words holding R book [] s
+pub led_fresh : {M B : Type 0} {words : M → List ℕ} {holding : B → Holdings} {R : B → Move → B → Type 0} {book : B} {m : List ℕ} {s : TheStore M B} → m ≡ first_words → Releases R book 16 s.book → Reached m [] (state_of words holding s) → Led words holding R book [] s
 led_fresh {words = words} {holding = holding} {s = s} e released reached =
     record {
       first = s.book;
@@ -30,9 +30,9 @@ led_fresh {words = words} {holding = holding} {s = s} e released reached =
     }
 
 -- what the rules say of the next answer
-pub rightly : {M B : Type 0} {words : M → List ℕ} {holding : B → Holdings} {R : B → Move → B → Type 0} {book : B} {h : History} {s : TheStore M B} (s' : TheStore M B) (c : Call) (r : Result Answer Fault) → Led words holding R book h s → Carries (state_of words holding s) c r (state_of words holding s') → Rightly tens (events h) c r
+pub rightly : {M B : Type 0} {words : M → List ℕ} {holding : B → Holdings} {R : B → Move → B → Type 0} {book : B} {h : History} {s : TheStore M B} (s' : TheStore M B) (c : Call) (r : Result Answer Fault) → Led words holding R book h s → Carries (state_of words holding s) c r (state_of words holding s') → Rightly first_words (events h) c r
 unfolding Answers
-rightly {h = h} s' c r led carries = (carries tens h led.reached).answers.0
+rightly {h = h} s' c r led carries = (carries first_words h led.reached).answers.0
 
 -- one granted call more
 pub led_more : {M B : Type 0} {words : M → List ℕ} {beyond : M → List (List ℕ)} {holding : B → Holdings} {R : B → Move → B → Type 0} {book : B} {h : History} {s s' : TheStore M B} (c : Call) {r : Result Answer Fault} {a : Answer} → Led words holding R book h s → Leaves words beyond holding R s c r s' → Carries (state_of words holding s) c r (state_of words holding s') → r ≡ Ok a → Led words holding R book (granted c a ∷ h) s'
@@ -40,13 +40,13 @@ led_more {words = words} {holding = holding} {R = R} {h = h} {s = s} {s' = s'} c
     record {
       first = led.first;
       released = led.released;
-      reached = subst (λ (q : Result Answer Fault). Reached tens (record { call = c; answer = q } ∷ h) (state_of words holding s')) e (carries tens h led.reached);
+      reached = subst (λ (q : Result Answer Fault). Reached first_words (record { call = c; answer = q } ∷ h) (state_of words holding s')) e (carries first_words h led.reached);
       travelled = onward h (granted c a) s.book s'.book led.travelled
           record { holds = led.reached.held; moved = subst (λ (q : Result Answer Fault). MovedBy R s.book (move_of c q) s'.book) e leaves.moved };
     }
 
 -- a call that the rules grant
-pub next : {M B : Type 0} {words : M → List ℕ} {beyond : M → List (List ℕ)} {holding : B → Holdings} {R : B → Move → B → Type 0} {book : B} {h : History} {s s' : TheStore M B} (c : Call) {r : Result Answer Fault} {a : Answer} → Led words holding R book h s → Leaves words beyond holding R s c r s' → Carries (state_of words holding s) c r (state_of words holding s') → (Rightly tens (events h) c r → r ≡ Ok a) → Led words holding R book (granted c a ∷ h) s' × (r ≡ Ok a)
+pub next : {M B : Type 0} {words : M → List ℕ} {beyond : M → List (List ℕ)} {holding : B → Holdings} {R : B → Move → B → Type 0} {book : B} {h : History} {s s' : TheStore M B} (c : Call) {r : Result Answer Fault} {a : Answer} → Led words holding R book h s → Leaves words beyond holding R s c r s' → Carries (state_of words holding s) c r (state_of words holding s') → (Rightly first_words (events h) c r → r ≡ Ok a) → Led words holding R book (granted c a ∷ h) s' × (r ≡ Ok a)
 next c {r = r} led leaves carries right =
     let e = right (rightly _ c r led carries) in
     (led_more c led leaves carries e, e)
@@ -79,28 +79,28 @@ abbrev pub stored_twice : History
 stored_twice = granted (Store 1 3 20) Done ∷ stored_once
 
 abbrev pub loaded : History
-loaded = granted (Load 1 0) (Word 10) ∷ begun
+loaded = granted (Load 1 0) (Word 7) ∷ begun
 
 abbrev pub loaded_and_stored : History
 loaded_and_stored = granted (Store 1 0 11) Done ∷ loaded
 
-pub begin_granted : (r : Result Answer Fault) → Rightly tens (events []) (Begin 1) r → r ≡ Ok Done
+pub begin_granted : (r : Result Answer Fault) → Rightly first_words (events []) (Begin 1) r → r ≡ Ok Done
 unfolding open_job
 begin_granted r e = e
 
-pub store_granted : (r : Result Answer Fault) → Rightly tens (events begun) (Store 1 3 15) r → r ≡ Ok Done
+pub store_granted : (r : Result Answer Fault) → Rightly first_words (events begun) (Store 1 3 15) r → r ≡ Ok Done
 unfolding open_job stored_addresses latest_store touched first_below
 store_granted r e = e
 
-pub again_granted : (r : Result Answer Fault) → Rightly tens (events stored_once) (Store 1 3 20) r → r ≡ Ok Done
+pub again_granted : (r : Result Answer Fault) → Rightly first_words (events stored_once) (Store 1 3 20) r → r ≡ Ok Done
 unfolding open_job stored_addresses latest_store touched first_below
 again_granted r e = e
 
-pub load_granted : (r : Result Answer Fault) → Rightly tens (events begun) (Load 1 0) r → r ≡ Ok (Word 10)
+pub load_granted : (r : Result Answer Fault) → Rightly first_words (events begun) (Load 1 0) r → r ≡ Ok (Word 7)
 unfolding open_job serial_words alone stored_in first_below
 load_granted r e = e
 
-pub own_granted : (r : Result Answer Fault) → Rightly tens (events loaded) (Store 1 0 11) r → r ≡ Ok Done
+pub own_granted : (r : Result Answer Fault) → Rightly first_words (events loaded) (Store 1 0 11) r → r ≡ Ok Done
 unfolding open_job stored_addresses latest_store touched first_below
 own_granted r e = e
 
@@ -108,12 +108,12 @@ own_granted r e = e
 abbrev pub OneRecord : Result (ℕ × ℕ) Fault → Type 0
 OneRecord r = (figure : ℕ) × (r ≡ Ok (1, figure))
 
-pub abort_granted : (r : Result (ℕ × ℕ) Fault) → Rightly tens (events stored_twice) (Abort 1) (ended_of r) → OneRecord r
+pub abort_granted : (r : Result (ℕ × ℕ) Fault) → Rightly first_words (events stored_twice) (Abort 1) (ended_of r) → OneRecord r
 unfolding open_job stored_addresses latest_store
 abort_granted (Ok p) e = (p.1, ap (λ (n : ℕ). Ok (n, p.1)) e.0)
 abort_granted (Err f) e = absurd e
 
-pub commit_granted : (r : Result (ℕ × ℕ) Fault) → Rightly tens (events loaded_and_stored) (Commit 1) (ended_of r) → OneRecord r
+pub commit_granted : (r : Result (ℕ × ℕ) Fault) → Rightly first_words (events loaded_and_stored) (Commit 1) (ended_of r) → OneRecord r
 unfolding open_job stored_addresses latest_store
 commit_granted (Ok p) e = (p.1, ap (λ (n : ℕ). Ok (n, p.1)) e.0)
 commit_granted (Err f) e = absurd e
@@ -129,11 +129,11 @@ none_left x y a b = elim b as (λ (v : Bool). latest_store (unwrap_or (cond v No
 pub put_back_word : {M B : Type 0} {words : M → List ℕ} {holding : B → Holdings} {R : B → Move → B → Type 0} {book : B} {figure : ℕ} {s : TheStore M B} → Led words holding R book (abort_turns figure) s → get_or (words s.memory) 3 0 ≡ 10
 unfolding open_job serial_words accessed
 put_back_word led =
-    let below : 3 < length tens = omega arith in
+    let below : 3 < length first_words = omega arith in
     led.reached.serial 3 below (λ t l. none_left (stores 3 20) (stores 3 15) 3 (nat_eq 1 t))
 
 pub stored_word : {M B : Type 0} {words : M → List ℕ} {holding : B → Holdings} {R : B → Move → B → Type 0} {book : B} {figure : ℕ} {s : TheStore M B} → Led words holding R book (commit_turns figure) s → get_or (words s.memory) 0 0 ≡ 11
 unfolding open_job serial_words alone accessed
 stored_word led =
-    let below : 0 < length tens = omega arith in
+    let below : 0 < length first_words = omega arith in
     led.reached.serial 0 below (λ t l. none_left (stores 0 11) (loads 0) 0 (nat_eq 1 t))

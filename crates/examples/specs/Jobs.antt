@@ -1,6 +1,6 @@
--- Two jobs, each alone on a fresh store over eight plain words that are all 10: their calls, each with its answer, the
+-- Two jobs, each alone on a fresh store over the words 7 to 14: their calls, each with its answer, the
 -- newest first, and the word that the job stored to, afterwards.
-use Rattle.std.specs.Prelude.{◌≡◌, ℕ, List, [], ◌∷◌, replicate, Ok, Result, slice_index}
+use Rattle.std.specs.Prelude.{◌≡◌, ℕ, List, [], ◌∷◌, Ok, Result, slice_index}
 use Rattle.arrayvec.specs.ArrayVec.{ArrayVec}
 use Rattle.fault.specs.declared.Fault.{Fault}
 use Rattle.memory.specs.Buffers.{plain_words}
@@ -23,18 +23,18 @@ use Rattle.examples.specs.declared.jobs.Ended.{Ended}
 abbrev pub plain : Buffer (ArrayVec ℕ) → List ℕ
 plain memory = plain_words memory.buffer.items
 
-abbrev pub tens : List ℕ
-tens = replicate 8 10
+abbrev pub first_words : List ℕ
+first_words = 7 ∷ 8 ∷ 9 ∷ 10 ∷ 11 ∷ 12 ∷ 13 ∷ 14 ∷ []
 
 abbrev pub granted : Call → Answer → Told
 granted c a = record { call = c; answer = Ok a }
 
--- a store that these turns led to, from a fresh one over ten at each address: every answer is the one that the rules
+-- a store that these turns led to, from a fresh one over the words 7 to 14: every answer is the one that the rules
 -- give, words, holdings and thread table are what they leave, and the book went by its own moves
 pub record Led {M B : Type 0} (words : M → List ℕ) (holding : B → Holdings) (R : B → Move → B → Type 0) (book : B) (turns : History) (store : TheStore M B) : Type 0 where
   pub first : B
   pub released : Releases R book 16 first
-  pub reached : Reached tens turns (state_of words holding store)
+  pub reached : Reached first_words turns (state_of words holding store)
   pub travelled : Travelled holding R first turns store.book
 
 abbrev pub abort_turns : ℕ → History
@@ -45,13 +45,13 @@ abort_turns figure =
 pub record Aborted {M B : Type 0} (words : M → List ℕ) (holding : B → Holdings) (R : B → Move → B → Type 0) (book : B) (figure : ℕ) (r : Result Ended Fault) : Type 0 where
   pub store : TheStore M B
   pub led : Led words holding R book (abort_turns figure) store
-  pub before : slice_index tens 3 ≡ 10
+  pub before : slice_index first_words 3 ≡ 10
   pub after : slice_index (words store.memory) 3 ≡ 10
   pub answers : r ≡ Ok record { answer = (1, figure); word = 10 }
 
 abbrev pub commit_turns : ℕ → History
 commit_turns figure =
-    granted (Commit 1) (EndedBy 1 figure) ∷ granted (Store 1 0 11) Done ∷ granted (Load 1 0) (Word 10) ∷ granted (Begin 1) Done ∷ []
+    granted (Commit 1) (EndedBy 1 figure) ∷ granted (Store 1 0 11) Done ∷ granted (Load 1 0) (Word 7) ∷ granted (Begin 1) Done ∷ []
 
 -- thread 1 loads word 0, stores 11 to it, and commits: one record, and the word is 11
 pub record Committed {M B : Type 0} (words : M → List ℕ) (holding : B → Holdings) (R : B → Move → B → Type 0) (book : B) (figure : ℕ) (r : Result Ended Fault) : Type 0 where

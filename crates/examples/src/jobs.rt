@@ -1,6 +1,6 @@
-//! Two jobs of thread 1, each alone on a fresh store over words that are all 10.
+//! Two jobs of thread 1, each alone on a fresh store over the words 7 to 14.
 ghost use Rattle.std.specs.Prelude.{◌≡◌, ℕ};
-ghost use Rattle.examples.specs.Jobs.{tens, Aborted, Committed};
+ghost use Rattle.examples.specs.Jobs.{first_words, Aborted, Committed};
 
 use book::Book;
 use fault::Fault;
@@ -19,7 +19,7 @@ pub(crate) fn abort_two_stores<M: Memory + Drop, B: Book + Drop>(
     memory: M,
     book: B,
 ) -> Result<Ended, Fault>
-    requires { M.Memory.words memory ≡ tens }
+    requires { M.Memory.words memory ≡ first_words }
     ensures { (figure : ℕ) × Aborted M.Memory.words B.Book.holding B.Book.moves book figure result }
 {
     let mut store = Store::fresh(memory, book);
@@ -36,7 +36,7 @@ pub(crate) fn commit_load_and_store<M: Memory + Drop, B: Book + Drop>(
     memory: M,
     book: B,
 ) -> Result<Ended, Fault>
-    requires { M.Memory.words memory ≡ tens }
+    requires { M.Memory.words memory ≡ first_words }
     ensures { (figure : ℕ) × Committed M.Memory.words B.Book.holding B.Book.moves book figure result }
 {
     let mut store = Store::fresh(memory, book);

@@ -3,7 +3,7 @@
 #![tactic(auto)]
 
 ghost use Rattle.std.specs.Prelude.{◌≡◌, true};
-ghost use Rattle.examples.specs.Jobs.{plain, tens};
+ghost use Rattle.examples.specs.Jobs.{plain, first_words};
 ghost use Rattle.examples.specs.Examples.{MarksWorked, JobsWorked};
 ghost use Rattle.marks.specs.Codes.{code_of};
 ghost use Rattle.marks.specs.Rules.{fuse_of, fused_in};
@@ -11,6 +11,7 @@ ghost use Rattle.marks.specs.States.{in_range};
 
 mod jobs;
 
+use arrayvec::ArrayVec;
 use board::BoardBook;
 use fault::Fault;
 use full::FullBook;
@@ -66,11 +67,11 @@ fn code(state: Metastate) -> u64
     mark(state).code()
 }
 
-/// One block of plain words, each 10.
+/// One block of plain words, each another.
 fn one_block() -> PlainArray<8>
-    ensures { plain result ≡ tens }
+    ensures { plain result ≡ first_words }
 {
-    PlainArray::filled(10)
+    PlainArray::over(ArrayVec::from([7, 8, 9, 10, 11, 12, 13, 14]))
 }
 
 /// Makes the calls of all examples.

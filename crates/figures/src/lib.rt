@@ -80,14 +80,16 @@ fn weighted_of(bands: &[u64; 6]) -> u64
         .sum()
 }
 
-/// Significant wave height in millimetres: four times the root of the energy.
+/// Significant wave height in millimetres: four times the root of the energy. Band k of the six has
+/// its energy in square millimetres and lies at 50 * k mHz; it counts at most 1,000,000.
 pub fn height(bands: &[u64; 6]) -> u64
     ensures { (root : ℕ) × (result ≡ 4 * root) × IsRoot (energy bands.now) root }
 {
     4 * energy_of(bands).isqrt()
 }
 
-/// Mean period in milliseconds: the root of energy over weighted energy. 0 for a flat sea.
+/// Mean period in milliseconds: the root of energy over weighted energy, of bands as for the height.
+/// 0 for a flat sea.
 #[tactic(auto, using(crate::proofs::Roots::below_next_square))]
 pub fn period(bands: &[u64; 6]) -> u64
     ensures flat { weighted bands.now ≡ 0 → result ≡ 0 }
@@ -103,7 +105,8 @@ pub fn period(bands: &[u64; 6]) -> u64
 }
 
 impl Reading {
-    /// Good where both figures carry the same half hour and are plausible.
+    /// Good where both figures carry the same half hour and are plausible: a height of at most
+    /// 30,000 mm, a period from 1,000 to 30,000 ms.
     pub fn quality(&self) -> Quality
         ensures hour { result.hour ≡ self.now.height.hour }
         ensures good { IsTrue result.good ↔ IsGood self.now }

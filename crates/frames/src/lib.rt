@@ -4,7 +4,6 @@
 ghost use Rattle.std.specs.Prelude.{◌≡◌, ◌*◌, ◌≤◌, ◌↔◌, length, take, replicate};
 ghost use Rattle.std.specs.Prelude.{Ok, IsOk, IfOk, IsTrue};
 ghost use Rattle.frames.specs.Frames.{copied, count_of, unpacked_answer, unpacked_blocks, unpacked_words};
-ghost use Rattle.memory.specs.Buffers.{plain_words};
 
 use fault::Fault;
 use memory::{ImageArray, MOST_BYTES, MOST_WORDS, Memory, PlainArray, Window, front};
@@ -25,6 +24,9 @@ pub fn copy<S: Memory, D: Memory>(from: &S, to: &mut D) -> Result<u64, Fault>
     }
     Ok(count)
 }
+
+// what the clauses below and program `unpack` read this limit as
+const _: () = prove!(MOST_BYTES == 4_096);
 
 /// What was unpacked, and how many bytes were left over behind it.
 #[derive(Clone, Copy, PartialEq, Eq, Debug)]
@@ -52,7 +54,8 @@ fn copy_frames<M: Memory + Drop>(report: &[u8], table: M) -> Result<(M, u64), Fa
 }
 
 /// Unpacks the whole frames of a report into the front of a table, as many as there are (64 at
-/// most) and as the table has room for. The table is given back beside what was done.
+/// most) and as the table has room for. The table is given back beside what was done; the answer is
+/// never a refusal.
 pub fn unpack<M: Memory + Drop>(report: &[u8], table: M) -> Result<(M, Unpacked), Fault>
     ensures granted { IsOk result }
     ensures table { IfOk result (λ done.
@@ -86,7 +89,7 @@ pub struct Report {
 /// All that the program `unpack` does with the bytes that it reads: the frames of the first 4,096
 /// go into a table of 512 zero words.
 pub fn unpack_input(input: &[u8]) -> Report
-    ensures table { plain_words result.table.buffer.items
+    ensures table { result.table.buffer.items
         ≡ unpacked_words (take 4096 input.now) (replicate 512 0) }
     ensures unpacked { result.unpacked ≡ unpacked_answer (take 4096 input.now) (replicate 512 0) }
     ensures full { IsTrue result.full ↔ (4096 ≤ length input.now) }

@@ -77,8 +77,8 @@ impl<A: Memory, B: Memory> Memory for Mirror<A, B> {
         ensures beyond { A.Memory.beyond self.new.first ++ B.Memory.beyond self.new.second ≡ A.Memory.beyond self.old.first ++ B.Memory.beyond self.old.second }
         ensures refused { OnErr result (self.new ≡ self.old) }
     {
-        // asked first, so that a refusal leaves both as they are: the sizes agree, and no write
-        // below is refused
+        // asked first, so that the proof need not compare mirrors: the sizes agree, so no write below
+        // is refused after it
         self.read(address)?;
         self.first.write(address, word)?;
         self.second.write(address, word)

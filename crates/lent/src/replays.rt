@@ -6,9 +6,10 @@ use book::{Book, Marked};
 use memory::{ImageArray, MOST_BYTES};
 use store::Store;
 
-/// Makes the calls on a fresh store over the bytes of a table. A call is four numbers, and so is
-/// its answer. Made are the whole groups of four that have room for their answers, up to the first
-/// that is no call: the number of these is the result.
+/// Makes the calls on a fresh store over the bytes of a table: its whole blocks of 64 bytes, among
+/// the first 4,096, are the words. All other bytes stay as they are. A call is four numbers, and so
+/// is its answer. Made are the whole groups of four that have room for their answers, up to the first
+/// that is no call: the number of these is the result. Numbers behind the last answer stay.
 pub fn replay<B: Book + Drop>(
     book: B,
     table: &mut [u8],

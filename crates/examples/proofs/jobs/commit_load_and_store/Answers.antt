@@ -15,7 +15,7 @@ returns-in_err-load g c =
     let fresh = led_fresh c.requires c.fresh-store.ensures.book c.fresh-store.ensures.start in
     let one = next (Begin 1) fresh c.begin.ensures.leaves c.begin.ensures.step (begin_granted _) in
     let two = next (Load 1 0) one.0 c.load.ensures.leaves c.load.ensures.step (load_granted _) in
-    absurd (word_refused c.load.result _ 10 c.in_err-load.was two.1)
+    absurd (word_refused c.load.result _ 7 c.in_err-load.was two.1)
 
 pub returns-in_err-store : goal.returns-in_err-store
 returns-in_err-store g c =
