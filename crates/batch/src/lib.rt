@@ -17,11 +17,6 @@ pub const SCRIPT_BYTES: usize = 32_768;
 /// The bytes of a report.
 pub const REPORT_BYTES: usize = 65_536;
 
-// what the clauses below and program `station` read these limits as
-const _: () = prove!(SCRIPT_BYTES == 32_768);
-
-const _: () = prove!(REPORT_BYTES == 65_536);
-
 /// A script that was run, and its report.
 #[derive(Drop)]
 pub struct Batch {
@@ -51,6 +46,8 @@ impl Batch {
             book script before after ran))
             input.now (rows_in result) result.not_run }
         ensures full { IsTrue result.input_full ↔ (32768 ≤ length input.now) }
+        // what the program reads by
+        ensures limits { (SCRIPT_BYTES ≡ 32768) × (REPORT_BYTES ≡ 65536) }
     {
         let mut report = [0; REPORT_BYTES];
         let script = front(input, SCRIPT_BYTES);

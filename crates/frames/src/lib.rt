@@ -25,9 +25,6 @@ pub fn copy<S: Memory, D: Memory>(from: &S, to: &mut D) -> Result<u64, Fault>
     Ok(count)
 }
 
-// what the clauses below and program `unpack` read this limit as
-const _: () = prove!(MOST_BYTES == 4_096);
-
 /// What was unpacked, and how many bytes were left over behind it.
 #[derive(Clone, Copy, PartialEq, Eq, Debug)]
 pub struct Unpacked {
@@ -93,6 +90,8 @@ pub fn unpack_input(input: &[u8]) -> Report
         ≡ unpacked_words (take 4096 input.now) (replicate 512 0) }
     ensures unpacked { result.unpacked ≡ unpacked_answer (take 4096 input.now) (replicate 512 0) }
     ensures full { IsTrue result.full ↔ (4096 ≤ length input.now) }
+    // what the program reads by
+    ensures limit { MOST_BYTES ≡ 4096 }
 {
     let read = front(input, MOST_BYTES);
     let (table, unpacked) = unpack(read, PlainArray::filled(0)).unwrap();
