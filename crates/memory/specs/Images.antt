@@ -5,11 +5,15 @@ use Rattle.std.specs.Int.Digits.{number_from_digits}
 use Rattle.std.proofs.lemmas.List.{length-append, length-take-le, length-drop, get_or_append_left, get_or-append_right, get_or-take, get_or-drop, get_or-set_same, get_or-set_other, length-set, set_past, ext_get_or}
 use Rattle.std.proofs.lemmas.Bool.{cases_lt, cases_eq, cond-true, cond-false, lt-ltb, le-ltb}
 use Rattle.std.proofs.lemmas.List.FromFn.{length-map-range_with_len, get_or-map-range_with_len}
-use Rattle.memory.specs.Words.{whole_blocks}
+use Rattle.memory.specs.Words.{Whole, whole_blocks}
 use Rattle.memory.specs.Buffers.{big_endian_word, word_bytes, overwritten, image_words, image_beyond, image_after}
+use Rattle.memory.specs.Fronts.{whole_counted}
 
 pub length-image : (bytes : List ℕ) → length (image_words bytes) ≡ 8 * whole_blocks (length bytes) 64
 length-image bytes = length-map-range_with_len (λ a. big_endian_word bytes (8 * a)) 0 (8 * whole_blocks (length bytes) 64)
+
+pub whole_image : (bytes : List ℕ) → Whole (image_words bytes)
+whole_image bytes = whole_counted (image_words bytes) (length bytes) 64 (length-image bytes)
 
 pub get_or-image : (bytes : List ℕ) (a : ℕ) → a < 8 * whole_blocks (length bytes) 64 → slice_index (image_words bytes) a ≡ big_endian_word bytes (8 * a)
 get_or-image bytes a lt = get_or-map-range_with_len (λ k. big_endian_word bytes (8 * k)) 0 (8 * whole_blocks (length bytes) 64) a a 0 lt (omega arith)

@@ -4,3 +4,4 @@ pub mod Windows
 pub mod Images
 pub mod Fronts
 pub mod WindowsLemmas
+pub mod Answered

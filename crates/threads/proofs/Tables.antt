@@ -12,10 +12,14 @@ pub length-table : (s : Table) → length (table_of s) ≡ 16
 unfolding table_of
 length-table s = length-map s.entries entry_of ∙ s.whole
 
--- the entry of a thread, as it is read
-pub at_thread : (s : Table) (t : ℕ) (e : Entry) → t < 16 → e ≡ get_or s.entries t e → entry_at (table_of s) t ≡ entry_of e
+-- the entry of a thread; e stands for what is read elsewhere, and does not matter
+pub at_thread : (s : Table) (t : ℕ) (e : Entry) → t < 16 → entry_at (table_of s) t ≡ entry_of (get_or s.entries t e)
 unfolding table_of
-at_thread s t e l is = get_or-map entry_of s.entries t e idle (omega (arith, s.whole)) ∙ ap entry_of (sym is)
+at_thread s t e l = get_or-map entry_of s.entries t e idle (omega (arith, s.whole))
+
+-- the same, by the entry that was read
+pub read_thread : (s : Table) (t : ℕ) (e : Entry) → t < 16 → e ≡ get_or s.entries t e → entry_at (table_of s) t ≡ entry_of e
+read_thread s t e l is = at_thread s t e l ∙ ap entry_of (sym is)
 
 -- no thread has a number above 15: nothing is read there, and nothing is put there
 pub at_no_thread : (s : Table) (t : ℕ) → 16 ≤ t → entry_at (table_of s) t ≡ idle
@@ -33,4 +37,4 @@ unfolding all_idle
 at_all_idle t = ⊎_elim (get_or-replicate 16 t idle idle) (get_or_past (replicate 16 idle) t idle) (cases_lt t 16)
 
 -- what a call needs that reads or changes the entry of one thread
-pub ruleset by_thread = (at_thread, at_no_thread, put_no_thread, map-set)
+pub ruleset by_thread = (read_thread, at_no_thread, put_no_thread, map-set)

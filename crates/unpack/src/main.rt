@@ -3,7 +3,7 @@
 //! status 1.
 #![tactic(auto)]
 
-use frames::{Report, unpack_input};
+use frames::{Report, Unpacked, unpack_input};
 use memory::MOST_BYTES;
 use std::io::Read;
 use std::process::ExitCode;
@@ -40,12 +40,16 @@ fn print_block(rt: &HostRuntime, number: u64, block: &[u64]) -> io::Result<()> {
 }
 
 fn print_report(rt: &HostRuntime, report: &Report) -> io::Result<()> {
-    let done = report.unpacked;
-    for (number, block) in (0..done.blocks).zip(report.table.buffer().chunks(8)) {
+    let Unpacked {
+        blocks,
+        words,
+        trailing,
+    } = report.unpacked;
+    for (number, block) in (0..blocks).zip(report.table.buffer().chunks(8)) {
         print_block(rt, number, block)?;
     }
-    print!(rt; "unpacked {} blocks, {} words; ", done.blocks, done.words)?;
-    println!(rt; "{} trailing bytes left over", done.trailing)
+    // in one call, so that the line is one write
+    println!(rt; "unpacked {blocks} blocks, {words} words; {trailing} trailing bytes left over")
 }
 
 fn work(rt: &HostRuntime) -> Result<(), Shortfall> {
