@@ -46,9 +46,10 @@ impl Holding {
     pub(crate) fn bars(self, take: Take) -> bool
         ensures { result ≡ nat_le (barred_by take) (tokens_of self) }
     {
-        match take {
-            Take::Load => self == Holding::All,
-            Take::Store => self != Holding::Nothing,
-        }
+        let least = match take {
+            Take::Load => Holding::All,
+            Take::Store => Holding::One,
+        };
+        self >= least
     }
 }

@@ -62,7 +62,7 @@ impl FullBook {
         ensures after { held_in self.new.rows ≡ cleared (held_in self.old.rows) thread.number }
     {
         let row = mem::replace(&mut self.rows[thread.index()], [Holding::Nothing; 64]);
-        row.iter().filter(|cell| cell.tokens() > 0).count() as u64
+        row.iter().map(|cell| u64::from(cell.tokens() > 0)).sum()
     }
 }
 

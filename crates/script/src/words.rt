@@ -56,5 +56,5 @@ pub fn count_fields(line: &[u8]) -> u64
 fn count_spaces(line: &[u8]) -> usize
     ensures { result ≡ count_by (λ byte. byte == 32) line.now }
 {
-    line.iter().filter(|byte| **byte == b' ').count()
+    line.iter().map(|byte| usize::from(*byte == b' ')).sum()
 }
