@@ -1,8 +1,12 @@
 -- The lengths of the numbers in a row.
-use Rattle.std.proofs.Common.{ℕ, ◌+◌, ◌<◌, ◌≤◌, length, decimal, arith}
+use Rattle.std.proofs.Common.{ℕ, ◌+◌, ◌^◌, ◌<◌, ◌≤◌, length, decimal, arith}
 use Rattle.std.proofs.lemmas.Fmt.{length-decimal-le}
 use Rattle.fault.specs.Numbers.{number_of}
 use Rattle.fault.specs.declared.Refusal.{Refusal}
+
+-- a number has at most twenty digits
+pub width : (n : ℕ) → n < 2 ^ 64 → length (decimal n) ≤ 20
+width n h = length-decimal-le 20 n (omega arith) (omega arith) h
 
 number_small : (r : Refusal) → number_of r < 100
 number_small r = grind arith

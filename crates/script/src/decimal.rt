@@ -47,5 +47,5 @@ pub fn put_number(out: &mut [u8], n: u64) -> Option<usize>
     ensures written { out.new ≡ fronted out.old (decimal n) }
     ensures readback { IfSome result (λ k. number_in (take k out.new) ≡ Some n) }
 {
-    put_text(out, Buffer::new().format(n))
+    put_text(out, Buffer::new().format(n).as_bytes())
 }

@@ -1,14 +1,13 @@
 //! Rows of a report: what became of a line.
 //! They are not printed by `Display`: `write!` says nothing of when a write fails, and a row has to fit.
-ghost use Rattle.std.specs.Prelude.{◌≡◌, ◌+◌, ◌≤◌, [], ◌∷◌, ◌++◌, length, Some, Ok, decimal};
-ghost use Rattle.arrayvec.specs.ArrayString.{array_string_len};
-ghost use Rattle.script.specs.Rows.{Within, outcome_text, row_of};
+ghost use Rattle.std.specs.Prelude.{◌≡◌, ◌+◌, ◌≤◌, [], ◌∷◌, ◌++◌, length, drop, Some, Ok, decimal};
+ghost use Rattle.script.specs.Rows.{Within, answer_text, fault_text, outcome_text, row_of, spaced};
 ghost use Rattle.script.specs.Writing.{fronted, fronts};
+ghost use Rattle.store.specs.States.{values_of};
 
 use super::writing::put_text;
-use arrayvec::ArrayString;
 use fault::Fault;
-use itoa::Buffer;
+use itoa::write_digits;
 use store::Answer;
 
 /// The most bytes of a row: a number of 20 digits, " no ", a letter, two values behind a space each, byte 10.
@@ -23,58 +22,100 @@ pub fn put_row(out: &mut [u8], line: u64, outcome: Result<Answer, Fault>) -> Opt
     ensures short { Within outcome → length (row_of line outcome) ≤ 64 }
     ensures room { Within outcome → 64 ≤ length out.old → result ≡ Some (length (row_of line outcome)) }
 {
-    put_text(out, &row_text(line, outcome))
+    let mut row = [0u8; ROW_BYTES];
+    let start = write_row(&mut row, line, outcome);
+    put_text(out, &row[start..])
 }
 
-/// The row of a line.
-fn row_text(line: u64, outcome: Result<Answer, Fault>) -> ArrayString<ROW_BYTES>
-    ensures text { result.bytes ≡ row_of line outcome }
-    ensures short { Within outcome → length result.bytes ≤ 64 }
+/// Writes the row of a line at the end of the buffer, and answers where it starts.
+/// From its last byte on, as itoa writes a number: so each number stands in its place at once.
+/// A text that grows, with a copy of each number, took half as long again (tried).
+fn write_row(row: &mut [u8; ROW_BYTES], line: u64, outcome: Result<Answer, Fault>) -> usize
+    ensures within { result ≤ 68 }
+    ensures text { drop result row.new ≡ row_of line outcome }
+    ensures short { Within outcome → 4 ≤ result }
 {
-    let mut row = ArrayString::new();
-    row.push_str(Buffer::new().format(line));
-    add_outcome(&mut row, outcome);
-    row.push('\n');
-    row
+    let end = add_text(row, ROW_BYTES, b"\n");
+    let end = add_outcome(row, end, outcome);
+    write_digits(line, row, end)
 }
 
-/// Adds what became of a line: " ok" and the values of the answer, or " no", the layer's letter, the refusal's number and its place.
-/// One text grows through all, hence the requires: with a text for each outcome and value the station takes an eighth more instructions (tried).
-fn add_outcome(row: &mut ArrayString<ROW_BYTES>, outcome: Result<Answer, Fault>)
-    requires { array_string_len row.old ≤ 20 }
-    ensures text { row.new.bytes ≡ row.old.bytes ++ outcome_text outcome }
-    ensures few { array_string_len row.new ≤ array_string_len row.old + 47 }
-    ensures short { Within outcome → array_string_len row.new ≤ array_string_len row.old + 29 }
+/// Writes what became of a line so that it ends at `end`, and answers where it starts, as all below.
+fn add_outcome(row: &mut [u8], end: usize, outcome: Result<Answer, Fault>) -> usize
+    requires { (47 ≤ end) × (end ≤ length row.old) }
+    ensures starts { result + length (outcome_text outcome) ≡ end }
+    ensures text { drop result row.new ≡ outcome_text outcome ++ drop end row.old }
+    ensures few { length (outcome_text outcome) ≤ 47 }
+    ensures short { Within outcome → length (outcome_text outcome) ≤ 29 }
 {
     match outcome {
-        Ok(answer) => {
-            row.push_str(" ok");
-            match answer {
-                Answer::Done => {}
-                Answer::Word(word) => add_value(row, word),
-                Answer::Ended(records, figure) => {
-                    add_value(row, records);
-                    add_value(row, figure);
-                }
-            }
+        Ok(answer) => add_answer(row, end, answer),
+        Err(fault) => add_fault(row, end, fault),
+    }
+}
+
+/// Writes " ok" and the values of the answer.
+fn add_answer(row: &mut [u8], end: usize, answer: Answer) -> usize
+    requires { (45 ≤ end) × (end ≤ length row.old) }
+    ensures starts { result + length (answer_text answer) ≡ end }
+    ensures text { drop result row.new ≡ answer_text answer ++ drop end row.old }
+    ensures few { length (answer_text answer) ≤ 45 }
+    ensures short { Within (Ok answer) → length (answer_text answer) ≤ 24 }
+{
+    match answer {
+        Answer::Done => add_text(row, end, b" ok"),
+        Answer::Word(word) => {
+            let end = add_value(row, end, word);
+            add_text(row, end, b" ok")
         }
-        Err(fault) => {
-            row.push_str(" no ");
-            row.push(fault.letter());
-            add_value(row, fault.number());
-            add_value(row, fault.place());
+        Answer::Ended(records, figure) => {
+            let end = add_values(row, end, records, figure);
+            add_text(row, end, b" ok")
         }
     }
 }
 
-/// Adds a value behind a space.
-#[inline]
-fn add_value(row: &mut ArrayString<ROW_BYTES>, value: u64)
-    requires { array_string_len row.old ≤ 47 }
-    ensures text { row.new.bytes ≡ row.old.bytes ++ 32 ∷ decimal value }
-    ensures count { array_string_len row.new ≡ array_string_len row.old + 1 + length (decimal value) }
+/// Writes " no ", the layer's letter, the refusal's number and its place.
+fn add_fault(row: &mut [u8], end: usize, fault: Fault) -> usize
+    requires { (47 ≤ end) × (end ≤ length row.old) }
+    ensures starts { result + length (fault_text fault) ≡ end }
+    ensures text { drop result row.new ≡ fault_text fault ++ drop end row.old }
+    ensures few { length (fault_text fault) ≤ 29 }
+{
+    let end = add_values(row, end, fault.number(), fault.place());
+    let end = add_text(row, end, &[fault.letter() as u8]);
+    add_text(row, end, b" no ")
+}
+
+/// Writes two values, each behind a space.
+fn add_values(row: &mut [u8], end: usize, first: u64, second: u64) -> usize
+    requires { (42 ≤ end) × (end ≤ length row.old) }
+    ensures starts { result + 2 + length (decimal first) + length (decimal second) ≡ end }
+    ensures text { drop result row.new ≡ spaced (first ∷ second ∷ []) ++ drop end row.old }
+    ensures few { (length (decimal first) ≤ 20) × (length (decimal second) ≤ 20) }
+{
+    let end = add_value(row, end, second);
+    add_value(row, end, first)
+}
+
+/// Writes a value behind a space.
+fn add_value(row: &mut [u8], end: usize, value: u64) -> usize
+    requires { (21 ≤ end) × (end ≤ length row.old) }
+    ensures starts { result + 1 + length (decimal value) ≡ end }
+    ensures text { drop result row.new ≡ spaced (value ∷ []) ++ drop end row.old }
     ensures few { length (decimal value) ≤ 20 }
 {
-    row.push(' ');
-    row.push_str(Buffer::new().format(value));
+    let start = write_digits(value, row, end);
+    add_text(row, start, b" ")
+}
+
+/// Writes a text.
+fn add_text(row: &mut [u8], end: usize, text: &[u8]) -> usize
+    requires { (length text.now ≤ end) × (end ≤ length row.old) }
+    ensures starts { result + length text.now ≡ end }
+    ensures text { drop result row.new ≡ text.now ++ drop end row.old }
+{
+    let start = end - text.len();
+    row[start..end].copy_from_slice(text);
+    start
 }
