@@ -3,6 +3,5 @@ mod Drawings
 mod Ledgers
 mod Takes
 mod Releases
-mod Chains
 mod Credits
 mod Gathering

@@ -100,14 +100,18 @@ impl Block {
     pub(crate) fn tokens(&self) -> u64
         ensures { result ≡ shown_by (marks_of self.now) }
     {
-        if shows_writer(Some(self.home)) || self.copies.iter().any(|copy| shows_writer(*copy)) {
+        if shows_writer(Some(self.home)) {
             return TOKENS;
         }
-        self.copies
-            .into_iter()
-            .map(copy_debit)
-            .fold(self.home.debit(), Debit::plus)
-            .tokens()
+        let mut sum = self.home.debit();
+        // one loop: a search and a fold go over the copies twice, and took twice the time
+        'copies: for copy in &self.copies {
+            if shows_writer(*copy) {
+                return TOKENS;
+            }
+            sum = sum.plus(copy_debit(*copy));
+        }
+        sum.tokens()
     }
 
     /// The codes of the five marks, home first.
@@ -166,7 +170,14 @@ fn read_by(thread: u64, copy: Mark) -> Mark
 fn shows_writer(copy: Option<Mark>) -> bool
     ensures { result ≡ writer_in (state_in copy) }
 {
-    copy.is_some_and(|mark| matches!(mark.state(), Metastate::Writer(_)))
+    match copy {
+        Some(mark) => match mark.state() {
+            Metastate::Writer(_) => true,
+            Metastate::Anonymous(_) => false,
+            Metastate::Reader(_) => false,
+        },
+        None => false,
+    }
 }
 
 /// The debit that a copy shows, if there is one.
